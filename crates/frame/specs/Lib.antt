@@ -1,0 +1,4 @@
+pub mod Frame
+pub mod Builder
+pub mod FrameLaws
+pub mod RoundTrip

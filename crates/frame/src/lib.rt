@@ -1,0 +1,7 @@
+// A KNXnet/IP frame beside its slice, and the builder: frame.rs, `KnxnetIpFrame` and `FrameBuilder`.
+mod builder;
+mod fields;
+
+pub use builder::FrameBuilder;
+pub use fields::FrameAnswer;
+pub use fields::FrameFields;

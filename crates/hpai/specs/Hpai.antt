@@ -1,0 +1,56 @@
+-- 01, "`Hpai`": 8 bytes: length, protocol, address (4), port. Assumes nothing.
+use Prim.Native.Nat.{ℕ}
+use mathlib.Core.Path.{_≡_}
+use mathlib.Core.List.{List, [], _∷_, _++_}
+use lib.ListN.{length, getD}
+use lib.Dec.{ltb}
+use Rattle.wire.specs.Told.{Told, done, refused, Check, _⇒_, differs, judged}
+use Rattle.wire.specs.Written.{Writes, room}
+use Rattle.wire.specs.Layout.{Field, byte, word, run, size, put, get}
+use Rattle.wire.specs.declared.refusals.Refusal.{Refusal}
+use Rattle.wire.specs.declared.refusals.Refusal.the-variants.{BufferTooSmall, InvalidFrame}
+use Rattle.wire.specs.declared.refusals.Written.{Written}
+use Rattle.constants.specs.Constants.{ipv4Udp}
+use Rattle.hpai.specs.declared.Hpai.{Hpai}
+use Rattle.hpai.specs.declared.HpaiAnswer.{HpaiAnswer}
+
+-- length, protocol, address (4), port
+abbrev pub fields : List Field
+fields = byte ∷ byte ∷ run 4 ∷ word ∷ []
+
+abbrev pub values : Hpai → List ℕ
+values h = h .«structure_length» ∷ h .«host_protocol» ∷ (h .«ip_address» ++ h .port ∷ [])
+
+abbrev pub layout : Hpai → List ℕ
+layout h = put fields (values h)
+
+-- of an input of n bytes with these values: fewer than 8 (1), length byte not 8 (2); the protocol byte is not checked
+abbrev pub checks : ℕ → List ℕ → List Check
+checks n vs =
+    ltb n (size fields) ⇒ BufferTooSmall
+    ∷ differs (getD vs 0 0) (size fields) ⇒ InvalidFrame
+    ∷ []
+
+abbrev pub told : HpaiAnswer → Told
+told r = record { number = r .number; values = values (r .hpai); start = 0; end = 0 }
+
+abbrev pub parseBy01 : List ℕ → Told
+parseBy01 s = judged (checks (length s) (get fields 0 s)) (done (get fields 0 s))
+
+abbrev pub ParsePromise : List ℕ → HpaiAnswer → Type 0
+ParsePromise s r = told r ≡ parseBy01 s
+
+-- seven zeros beside the number
+abbrev pub RefusedPromise : Refusal → HpaiAnswer → Type 0
+RefusedPromise e r = told r ≡ refused 7 e
+
+-- for IPv4 over UDP
+abbrev pub NewPromise : List ℕ → ℕ → Hpai → Type 0
+NewPromise ip port r = r ≡ record { «structure_length» = size fields; «host_protocol» = ipv4Udp; «ip_address» = ip; port = port }
+
+-- a buffer below 8 (1); the fields are written as held
+abbrev pub encodeChecks : ℕ → List Check
+encodeChecks m = room (size fields) m ∷ []
+
+abbrev pub EncodePromise : Hpai → List ℕ → Written → List ℕ → Type 0
+EncodePromise h b r after = Writes (encodeChecks (length b)) (layout h) b r after

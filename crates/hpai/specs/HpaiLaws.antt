@@ -1,0 +1,87 @@
+-- An Hpai both ways: what is written is read back, what is accepted has the layout of its answer; and no second answer. Assumes nothing.
+use Prim.Native.Nat.{ℕ, _-_, _≤_}
+use native.Mathlib.Omega.{arith}
+use mathlib.Core.Path.{_≡_, refl, sym, ap, _∙_}
+use mathlib.Core.List.{List, [], _∷_, _++_}
+use lib.ListN.{length, getD, take, drop, length-append}
+use lib.Seq.{getD-append-seam, take-append-seam}
+use lib.Dec.{ltb}
+use borrow.Author.Tests.{le-ltb, eq-eqb, ltb-false}
+use Rattle.wire.specs.Told.{Told, done, Check, verdict, judged}
+use Rattle.wire.specs.ToldLaws.{one-to-one, holds, let-pass, was-accepted, let-through, same}
+use Rattle.wire.specs.Layout.{highOf, lowOf, runAt, put, get}
+use Rattle.wire.specs.LayoutLaws.{Bytes, run-all, put-get, length-put, get-put}
+use Rattle.wire.specs.WrittenLaws.{writes-one, wrote}
+use Rattle.wire.specs.declared.refusals.Refusal.the-variants.{BufferTooSmall}
+use Rattle.wire.specs.declared.refusals.Written.{Written}
+use Rattle.wire.specs.declared.refusals.Written.the-variants as W
+use Rattle.hpai.specs.Hpai.{fields, values, layout, checks, told, parseBy01, ParsePromise, encodeChecks, EncodePromise}
+use Rattle.hpai.specs.declared.Hpai.{Hpai}
+use Rattle.hpai.specs.declared.HpaiAnswer.{HpaiAnswer}
+
+-- the address's four bytes one by one
+pub layout-is : (h : Hpai) → length (h .«ip_address») ≡ 4
+    → layout h ≡ h .«structure_length» ∷ h .«host_protocol» ∷ (runAt 4 (h .«ip_address») 0 ++ highOf (h .port) ∷ lowOf (h .port) ∷ [])
+layout-is h q =
+    ap (λ (ip : List ℕ). put fields (h .«structure_length» ∷ h .«host_protocol» ∷ (ip ++ h .port ∷ []))) (sym (run-all 4 (h .«ip_address») q))
+
+-- ---- no second answer
+
+-- the Hpai with these values: the port is the last of them
+unfoldable pub hpaiOf : List ℕ → Hpai
+hpaiOf vs = record {
+  «structure_length» = getD vs 0 0;
+  «host_protocol» = getD vs 1 0;
+  «ip_address» = take (length vs - 3) (drop 2 vs);
+  port = getD (drop 2 vs) (length vs - 3) 0;
+}
+
+pub hpai-of-values : (h : Hpai) → hpaiOf (values h) ≡ h
+unfolding hpaiOf
+hpai-of-values h =
+    let ip : List ℕ = h .«ip_address» in
+    let k : length (values h) - 3 ≡ length ip = omega (arith, length-append ip (h .port ∷ [])) in
+    rw (k, take-append-seam ip (h .port ∷ []), getD-append-seam ip (h .port) [] 0)
+
+pub told-one : (r q : HpaiAnswer) → told r ≡ told q → r ≡ q
+told-one = one-to-one told (λ t. record { number = t .number; hpai = hpaiOf (t .values) }) (λ r. ap (λ (h : Hpai). record { number = r .number; hpai = h }) (hpai-of-values (r .hpai)))
+
+pub parse-one : (s : List ℕ) (r q : HpaiAnswer) → ParsePromise s r → ParsePromise s q → r ≡ q
+parse-one s r q a b = told-one r q (same a b)
+
+pub encode-one : (h : Hpai) (b : List ℕ) (r q : Written) (after later : List ℕ)
+    → EncodePromise h b r after → EncodePromise h b q later → (r ≡ q) × (after ≡ later)
+encode-one h b = writes-one (encodeChecks (length b)) (layout h) b
+
+-- ---- written, then read
+
+-- the Hpai's own length byte is 8, and its address has four bytes, as every value of the type has
+pub record Proper (h : Hpai) : Type 0 where
+  pub length-8 : h .«structure_length» ≡ 8
+  pub address-4 : length (h .«ip_address») ≡ 4
+
+abbrev pub accepted : Hpai → HpaiAnswer
+accepted h = record { number = 0; hpai = h }
+
+pub reads-back : (h : Hpai) (rest : List ℕ) → Proper h → parseBy01 (layout h ++ rest) ≡ told (accepted h)
+reads-back h rest p =
+    let n : ℕ = length (layout h ++ rest) in
+    let seven : length (values h) ≡ 7 = omega (arith, length-append (h .«ip_address») (h .port ∷ []), p .address-4) in
+    let eight : 8 ≤ n = omega (arith, length-append (layout h) rest, length-put fields (values h) seven) in
+    let held : verdict (checks n (values h)) ≡ verdict [] = simp (le-ltb n 8 eight, eq-eqb _ _ (p .length-8)) in
+    ap (λ (vs : List ℕ). judged (checks n vs) (done vs)) (get-put fields (values h) [] rest 0 refl seven) ∙ let-pass (checks n (values h)) (done (values h)) held
+
+pub encode-parse : (h : Hpai) (b : List ℕ) (n : ℕ) (after : List ℕ) (r : HpaiAnswer)
+    → Proper h → EncodePromise h b (W.Bytes n) after → ParsePromise after r → r ≡ accepted h
+encode-parse h b n after r p e q =
+    told-one r (accepted h) (q ∙ ap parseBy01 (wrote (encodeChecks (length b)) (layout h) b n after e .bytes) ∙ reads-back h (drop (length (layout h)) b) p)
+
+-- ---- read, then written
+
+pub has-layout : (s : List ℕ) (h : Hpai) → Bytes s → ParsePromise s (accepted h) → take 8 s ≡ layout h
+has-layout s h b q =
+    let vs : List ℕ = get fields 0 s in
+    let cs : List Check = checks (length s) vs in
+    let read : values h ≡ vs = ap (λ (t : Told). t .values) (let-through cs (done vs) (done (values h)) refl q) in
+    let enough : 8 ≤ length s = ltb-false (length s) 8 (holds [] (ltb (length s) 8) BufferTooSmall (drop 1 cs) (was-accepted cs (done vs) (done (values h)) refl q)) in
+    sym (put-get fields 0 s b (omega arith)) ∙ ap (put fields) (sym read)

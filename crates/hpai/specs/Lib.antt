@@ -1,0 +1,2 @@
+pub mod Hpai
+pub mod HpaiLaws

@@ -1,0 +1,10 @@
+pub mod Numbers
+pub mod Told
+pub mod Written
+pub mod Parts
+pub mod Layout
+pub mod ToldLaws
+pub mod LayoutLaws
+pub mod Refusing
+pub mod WrittenLaws
+pub mod PartLaws
