@@ -15,7 +15,7 @@ use Rattle.header.specs.Header.{fields, made}
 use Rattle.frame.specs.declared.builder.FrameBuilder.{FrameBuilder}
 
 abbrev pub NewPromise : ServiceType → FrameBuilder → Type 0
-NewPromise s r = r .«service_type» ≡ s
+NewPromise s r = r ≡ record { «service_type» = s }
 
 -- of a body of n bytes and a buffer of m: 6 + body above 512 (5), then the buffer (1)
 abbrev pub checks : ℕ → ℕ → List Check

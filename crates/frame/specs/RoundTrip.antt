@@ -1,21 +1,22 @@
 -- Frames both ways: what is built is parsed back, and what is accepted is the header's layout and the body. Assumes nothing.
 use Prim.Native.Nat.{ℕ, _+_, _-_, _≤_}
 use native.Mathlib.Omega.{arith}
-use mathlib.Core.Path.{_≡_, refl, sym, ap, _∙_}
+use mathlib.Core.Path.{_≡_, refl, sym, ap, _∙_, subst}
 use mathlib.Core.List.{List, [], _∷_, _++_, append-assoc}
 use lib.ListN.{length, take, drop, length-append}
-use lib.Seq.{take-add}
+use lib.Seq.{take-add, drop-append-seam}
 use lib.Dec.{ltb}
 use borrow.Author.Tests.{le-ltb, eq-eqb, ltb-false}
-use Rattle.wire.specs.Told.{Told, done, viewed, Check, _⇒_, verdict, judged}
+use Rattle.wire.specs.Told.{Told, done, viewed, Check, _⇒_, verdict, judged, lent}
 use Rattle.wire.specs.ToldLaws.{holds, let-pass, was-accepted, let-through}
 use Rattle.wire.specs.Layout.{get}
 use Rattle.wire.specs.LayoutLaws.{Bytes}
 use Rattle.wire.specs.Parts.{partOf, shown}
 use Rattle.wire.specs.PartLaws.{part-is, part-between}
-use Rattle.wire.specs.Written.{onto}
+use Rattle.wire.specs.Written.{onto, tells, leaves}
 use Rattle.wire.specs.WrittenLaws.{wrote}
 use Rattle.wire.specs.declared.refusals.Refusal.the-variants.{InvalidFrame}
+use Rattle.wire.specs.declared.refusals.Verdict.{Verdict}
 use Rattle.wire.specs.declared.refusals.Verdict.the-variants.{Accept}
 use Rattle.wire.specs.declared.refusals.Written.the-variants as W
 use Rattle.constants.specs.Constants.{headerSize, version10}
@@ -26,7 +27,7 @@ use Rattle.header.specs.Header as Header
 use Rattle.header.specs.HeaderLaws.{Proper, proper-holds, got}
 use Rattle.header.specs.HeaderLaws as HeaderLaws
 use Rattle.header.specs.declared.KnxnetIpHeader.{KnxnetIpHeader}
-use Rattle.frame.specs.Frame.{checks, told, parseBy01, ParsePromise, viewBy01, BodyPartPromise, DataPartPromise}
+use Rattle.frame.specs.Frame.{checks, told, parseBy01, ParsePromise, viewBy01, bodyBy01, dataBy01, BodyPartPromise, DataPartPromise}
 use Rattle.frame.specs.FrameLaws.{told-one}
 use Rattle.frame.specs.Builder.{frame, BuildPromise}
 use Rattle.frame.specs.Builder as Builder
@@ -72,29 +73,49 @@ shown-back : (s : ServiceType) (body rest : List ℕ) (start : ℕ)
 shown-back s body rest start =
     ap (shown (whole s body rest)) (let-pass (checks (length (whole s body rest)) (values (built s body .header))) (viewed start (6 + length body)) (stands s body rest))
 
--- what `build` wrote and answered, `parse` and the accessors give back
-pub record Back (f : FrameBuilder) (body : List ℕ) (n : ℕ) (after : List ℕ) : Type 0 where
-  pub count : n ≡ 6 + length body
-  pub fields-back : (r : FrameAnswer) → ParsePromise after r → r ≡ Frame (built (f .«service_type») body)
-  pub body-back : (r : List ℕ) → BodyPartPromise (built (f .«service_type») body) after r → r ≡ body
-  pub data-back : (r : List ℕ) → DataPartPromise (built (f .«service_type») body) after r → r ≡ frame (f .«service_type») body
+-- a buffer b that holds a built frame afterwards: `parse` and the accessors give it back, and the bytes after it are b's
+pub record Back (s : ServiceType) (body b after : List ℕ) : Type 0 where
+  pub fields-back : parseBy01 after ≡ told (Frame (built s body))
+  pub body-back : shown after (bodyBy01 (built s body) after) ≡ body
+  pub data-back : shown after (dataBy01 (built s body) after) ≡ frame s body
+  pub rest-back : drop (6 + length body) after ≡ drop (6 + length body) b
 
-pub build-parse : (f : FrameBuilder) (body b : List ℕ) (n : ℕ) (after : List ℕ) → BuildPromise f body b (W.Bytes n) after → Back f body n after
-build-parse f body b n after promised =
-    let s : ServiceType = f .«service_type» in
+pub back : (s : ServiceType) (body b : List ℕ) → Back s body b (onto b (frame s body))
+back s body b =
     let w : List ℕ = frame s body in
     let rest : List ℕ = drop (length w) b in
-    let done-so = wrote (Builder.checks (length body) (length b)) w b n after promised in
-    let into : after ≡ whole s body rest = done-so .bytes in
-    let header : List ℕ = layout (built s body .header) in
+    let long : 6 + length body ≡ length w = omega arith in
     record {
-      count = done-so .count ∙ omega arith;
-      fields-back = λ r q. told-one r (Frame (built s body)) (q ∙ ap parseBy01 into ∙ reads-back s body rest);
-      body-back = λ r q.
-          q ∙ ap (λ (t : List ℕ). shown t (viewBy01 (built s body) 6 (length t))) into ∙ shown-back s body rest 6 ∙ part-between header body rest 6 (6 + length body) refl refl;
-      data-back = λ r q.
-          q ∙ ap (λ (t : List ℕ). shown t (viewBy01 (built s body) 0 (length t))) into ∙ shown-back s body rest 0 ∙ part-between [] w rest 0 (6 + length body) refl (omega arith);
+      fields-back = reads-back s body rest;
+      body-back = shown-back s body rest 6 ∙ part-between (layout (built s body .header)) body rest 6 (6 + length body) refl refl;
+      data-back = shown-back s body rest 0 ∙ part-between [] w rest 0 (6 + length body) refl (omega arith);
+      rest-back = ap (λ (k : ℕ). drop k (w ++ rest)) long ∙ drop-append-seam w rest ∙ ap (λ (k : ℕ). drop k b) (sym long);
     }
+
+-- what `build` answered and wrote comes back
+pub build-back : (f : FrameBuilder) (body b : List ℕ) (n : ℕ) (after : List ℕ)
+    → BuildPromise f body b (W.Bytes n) after → (n ≡ 6 + length body) × Back (f .«service_type») body b after
+build-back f body b n after promised =
+    let s : ServiceType = f .«service_type» in
+    let w = wrote (Builder.checks (length body) (length b)) (frame s body) b n after promised in
+    (w .count ∙ omega arith, subst (Back s body b) (sym (w .bytes)) (back s body b))
+
+pub build-parse : (f : FrameBuilder) (body b : List ℕ) (n : ℕ) (after : List ℕ) (r : FrameAnswer)
+    → BuildPromise f body b (W.Bytes n) after → ParsePromise after r → r ≡ Frame (built (f .«service_type») body)
+build-parse f body b n after r promised q =
+    told-one r (Frame (built (f .«service_type») body)) (q ∙ build-back f body b n after promised .1 .fields-back)
+
+-- and it writes wherever 01 lets it
+pub builds : (s : ServiceType) (body b : List ℕ) → 6 + length body ≤ 512 → 6 + length body ≤ length b
+    → (tells (Builder.checks (length body) (length b)) (frame s body) ≡ done ((6 + length body) ∷ []))
+    × Back s body b (leaves (Builder.checks (length body) (length b)) (frame s body) b)
+builds s body b small room =
+    let cs : List Check = Builder.checks (length body) (length b) in
+    let w : List ℕ = frame s body in
+    let all : verdict cs ≡ Accept = simp (le-ltb 512 (6 + length body) small, le-ltb (length b) (6 + length body) room) in
+    let long : length w ≡ 6 + length body = omega arith in
+    let into : leaves cs w b ≡ onto b w = ap (λ (v : Verdict). lent v b (onto b w)) all in
+    (let-pass cs (done (length w ∷ [])) all ∙ ap (λ (k : ℕ). done (k ∷ [])) long, subst (Back s body b) (sym into) (back s body b))
 
 -- ---- accepted: the header's layout and the body
 

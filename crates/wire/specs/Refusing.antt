@@ -1,12 +1,14 @@
 -- Demand 1, for every promise that goes by checks: a number other than 0 is one of 1 to 13, with zeros and an empty view, and changes no lent byte. Assumes nothing.
 use Prim.Native.Nat.{ℕ, _≤_}
 use mathlib.Core.Path.{_≡_, refl, sym, ap, _∙_}
-use mathlib.Core.List.{List}
+use mathlib.Core.List.{List, [], _∷_}
 use lib.ListN.{length, replicate, length-replicate}
 use Rattle.wire.specs.Numbers.{numberOf}
-use Rattle.wire.specs.Told.{Told, Check, refused, verdict, answer, judged, lent}
+use Rattle.wire.specs.Told.{Told, Check, done, refused, verdict, answer, judged, lent}
+use Rattle.wire.specs.Written.{told, onto, Writes}
 use Rattle.wire.specs.ToldLaws.{numbered}
 use Rattle.wire.specs.declared.refusals.Refusal.{Refusal}
+use Rattle.wire.specs.declared.refusals.Written.{Written}
 use Rattle.wire.specs.declared.refusals.Verdict.{Verdict}
 use Rattle.wire.specs.declared.refusals.Verdict.the-variants.{Accept, Refuse}
 
@@ -49,3 +51,8 @@ judged-refusing cs t u z e = rw e (answer-refusing (verdict cs) t z)
 -- and the slice that was lent to it
 pub judged-leaves : (cs : List Check) (t u : Told) (b w after : List ℕ) → t .number ≡ 0 → u ≡ judged cs t → after ≡ lent (verdict cs) b w → Leaves u b after
 judged-leaves cs t u b w after z e f = rw (e, f) (answer-leaves (verdict cs) t b w z)
+
+-- both, for an encoder or a builder
+pub writes-refusing : (cs : List Check) (w b : List ℕ) (r : Written) (after : List ℕ) → Writes cs w b r after → Refusing (told r) × Leaves (told r) b after
+writes-refusing cs w b r after x =
+    (judged-refusing cs (done (length w ∷ [])) (told r) refl (x .0), judged-leaves cs (done (length w ∷ [])) (told r) b (onto b w) after refl (x .0) (x .1))

@@ -5,7 +5,7 @@ use mathlib.Core.List.{List, [], _∷_}
 use lib.ListN.{length, getD}
 use Rattle.wire.specs.Told.{Told, done, Check, verdict, lent}
 use Rattle.wire.specs.ToldLaws.{was-accepted, let-through, same, one-to-one, answerOf, back-refused}
-use Rattle.wire.specs.Written.{told, onto, Writes}
+use Rattle.wire.specs.Written.{told, onto, Writes, room, WritePromise}
 use Rattle.wire.specs.declared.refusals.Verdict.{Verdict}
 use Rattle.wire.specs.declared.refusals.Written.{Written}
 use Rattle.wire.specs.declared.refusals.Written.the-variants.{Bytes, Refused}
@@ -23,6 +23,10 @@ told-one = one-to-one told (answerOf bytesOf Refused) told-back
 pub writes-one : (cs : List Check) (w b : List ℕ) (r q : Written) (after later : List ℕ)
     → Writes cs w b r after → Writes cs w b q later → (r ≡ q) × (after ≡ later)
 writes-one cs w b r q after later x y = (told-one r q (same (x .0) (y .0)), same (x .1) (y .1))
+
+pub write-one : (w b : List ℕ) (r q : Written) (after later : List ℕ)
+    → WritePromise w b r after → WritePromise w b q later → (r ≡ q) × (after ≡ later)
+write-one w b = writes-one (room (length w) (length b) ∷ []) w b
 
 -- where a count is answered, that many bytes were written, and the rest is as it was
 pub record Wrote (w b : List ℕ) (n : ℕ) (after : List ℕ) : Type 0 where

@@ -1,0 +1,87 @@
+-- Demand 1: a number other than 0 is one of 1 to 13, comes with zeros and an empty view, and changes no lent byte. One line for each public function that can refuse, over the promise that its contract names. That nothing faults, wraps or hangs is the gate's verdict on functions without a `requires`.
+use Prim.Native.Nat.{ℕ}
+use mathlib.Core.Path.{_≡_, refl, _∙_}
+use mathlib.Core.List.{List, [], _∷_}
+use lib.ListN.{length}
+use Rattle.wire.specs.Told.{done, viewed, verdict}
+use Rattle.wire.specs.Layout.{get}
+use Rattle.wire.specs.Written.{WritePromise, room}
+use Rattle.wire.specs.Written as Written
+use Rattle.wire.specs.Parts as Parts
+use Rattle.wire.specs.PartLaws.{shown-refused}
+use Rattle.wire.specs.declared.refusals.Refusal.{Refusal}
+use Rattle.wire.specs.declared.refusals.Verdict.the-variants.{Refuse}
+use Rattle.wire.specs.Refusing.{Refusing, Leaves, judged-refusing, writes-refusing}
+use Rattle.wire.specs.declared.refusals.Written.{Written}
+use Rattle.wire.specs.declared.parts.View.{View}
+use Rattle.constants.specs.Services.{serviceCheck, codeOf}
+use Rattle.constants.specs.Services as Services
+use Rattle.constants.specs.declared.ServiceType.{ServiceType}
+use Rattle.constants.specs.declared.ServiceAnswer.{ServiceAnswer}
+use Rattle.header.specs.Header as Header
+use Rattle.header.specs.declared.KnxnetIpHeader.{KnxnetIpHeader}
+use Rattle.header.specs.declared.HeaderAnswer.{HeaderAnswer}
+use Rattle.frame.specs.Frame as Frame
+use Rattle.frame.specs.Builder as Builder
+use Rattle.frame.specs.declared.fields.FrameFields.{FrameFields}
+use Rattle.frame.specs.declared.fields.FrameAnswer.{FrameAnswer}
+use Rattle.frame.specs.declared.builder.FrameBuilder.{FrameBuilder}
+use Rattle.hpai.specs.Hpai as Hpai
+use Rattle.hpai.specs.declared.Hpai.{Hpai}
+use Rattle.hpai.specs.declared.HpaiAnswer.{HpaiAnswer}
+
+-- ---- wire
+
+pub write : (w b : List ℕ) (r : Written) (after : List ℕ) → WritePromise w b r after → Refusing (Written.told r) × Leaves (Written.told r) b after
+write w b = writes-refusing (room (length w) (length b) ∷ []) w b
+
+-- ---- constants
+
+pub service-from : (code : ℕ) (r : ServiceAnswer) → Services.FromPromise code r → Refusing (Services.told r)
+service-from code r = judged-refusing (serviceCheck code ∷ []) (done (code ∷ [])) (Services.told r) refl
+
+-- ---- header
+
+pub header-new : (s : ServiceType) (n : ℕ) (r : HeaderAnswer) → Header.NewPromise s n r → Refusing (Header.told r)
+header-new s n r = judged-refusing (Header.newChecks n) (done (Header.made s n)) (Header.told r) refl
+
+pub header-parse : (s : List ℕ) (r : HeaderAnswer) → Header.ParsePromise s r → Refusing (Header.told r)
+header-parse s r = judged-refusing (Header.checks (length s) (get Header.fields 0 s)) (done (get Header.fields 0 s)) (Header.told r) refl
+
+pub header-encode : (h : KnxnetIpHeader) (b : List ℕ) (r : Written) (after : List ℕ) → Header.EncodePromise h b r after → Refusing (Written.told r) × Leaves (Written.told r) b after
+header-encode h b = writes-refusing (Header.encodeChecks (length b)) (Header.layout h) b
+
+-- ---- frame
+
+pub frame-parse : (s : List ℕ) (r : FrameAnswer) → Frame.ParsePromise s r → Refusing (Frame.told r)
+frame-parse s r = judged-refusing (Frame.checks (length s) (get Header.fields 0 s)) (done (get Header.fields 0 s)) (Frame.told r) refl
+
+pub frame-header : (f : FrameFields) (s : List ℕ) (r : HeaderAnswer) → Frame.HeaderPromise f s r → Refusing (Header.told r)
+frame-header f s r = judged-refusing (Frame.recordChecks f (length s)) (done (Header.values (f .header))) (Header.told r) refl
+
+pub frame-service-type : (f : FrameFields) (s : List ℕ) (r : ServiceAnswer) → Frame.ServiceTypePromise f s r → Refusing (Services.told r)
+frame-service-type f s r = judged-refusing (Frame.recordChecks f (length s)) (done (codeOf (f .header .«service_type») ∷ [])) (Services.told r) refl
+
+pub frame-body : (f : FrameFields) (s : List ℕ) (r : View) → Frame.BodyPromise f s r → Refusing (Parts.told r)
+frame-body f s r = judged-refusing (Frame.recordChecks f (length s)) (viewed 6 (f .header .«total_length»)) (Parts.told r) refl
+
+pub frame-data : (f : FrameFields) (s : List ℕ) (r : View) → Frame.DataPromise f s r → Refusing (Parts.told r)
+frame-data f s r = judged-refusing (Frame.recordChecks f (length s)) (viewed 0 (f .header .«total_length»)) (Parts.told r) refl
+
+-- of a refused frame an empty part is handed out
+pub frame-body-part : (f : FrameFields) (s r : List ℕ) (e : Refusal) → verdict (Frame.recordChecks f (length s)) ≡ Refuse e → Frame.BodyPartPromise f s r → r ≡ []
+frame-body-part f s r e v q = q ∙ shown-refused (Frame.recordChecks f (length s)) (viewed 6 (f .header .«total_length»)) e s v
+
+pub frame-data-part : (f : FrameFields) (s r : List ℕ) (e : Refusal) → verdict (Frame.recordChecks f (length s)) ≡ Refuse e → Frame.DataPartPromise f s r → r ≡ []
+frame-data-part f s r e v q = q ∙ shown-refused (Frame.recordChecks f (length s)) (viewed 0 (f .header .«total_length»)) e s v
+
+pub frame-build : (f : FrameBuilder) (body b : List ℕ) (r : Written) (after : List ℕ) → Builder.BuildPromise f body b r after → Refusing (Written.told r) × Leaves (Written.told r) b after
+frame-build f body b = writes-refusing (Builder.checks (length body) (length b)) (Builder.frame (f .«service_type») body) b
+
+-- ---- hpai
+
+pub hpai-parse : (s : List ℕ) (r : HpaiAnswer) → Hpai.ParsePromise s r → Refusing (Hpai.told r)
+hpai-parse s r = judged-refusing (Hpai.checks (length s) (get Hpai.fields 0 s)) (done (get Hpai.fields 0 s)) (Hpai.told r) refl
+
+pub hpai-encode : (h : Hpai) (b : List ℕ) (r : Written) (after : List ℕ) → Hpai.EncodePromise h b r after → Refusing (Written.told r) × Leaves (Written.told r) b after
+hpai-encode h b = writes-refusing (Hpai.encodeChecks (length b)) (Hpai.layout h) b

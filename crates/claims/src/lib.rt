@@ -1,0 +1,1 @@
+// No code: the statements of specs/, in the order of the three demands.

@@ -1,0 +1,45 @@
+// Replays records of calls, as compare/README.md lays them out, and writes a line for what each call told:
+// what the Rust answers to the same records is beside it, in `stdout` for the fixed sample.
+mod calls;
+mod frame_calls;
+mod lines;
+
+fn number24(s: &[u8]) -> usize {
+    (wire::byte_at(s, 0) as usize) * 65536 + (wire::word_at(s, 1) as usize)
+}
+
+// Reads one record and answers it; false where the input ends.
+fn turn(args: &mut [u8], buf: &mut [u8], out: &mut [u8]) -> bool {
+    let mut head = [0u8; 7];
+    if io::read_full(0, &mut head) < 7 {
+        return false;
+    }
+    let n = number24(wire::part(&head, 1, 4));
+    let m = number24(wire::part(&head, 4, 7));
+    if args.len() < n {
+        return false;
+    }
+    if io::read_full(0, &mut args[..n]) < n {
+        return false;
+    }
+    let used = calls::record(head[0], wire::part(args, 0, n), m, buf, out);
+    io::write_all(1, wire::part(out, 0, used))
+}
+
+// Every turn reads seven bytes, so no input is long enough to meet this count.
+fn run(args: &mut [u8], buf: &mut [u8], out: &mut [u8]) {
+    let mut turns = u64::MAX;
+    while turns > 0 {
+        if !turn(args, buf, out) {
+            break;
+        }
+        turns -= 1;
+    }
+}
+
+fn main() {
+    let mut args = [0u8; 66000];
+    let mut buf = [0u8; 66000];
+    let mut out = [0u8; 133000];
+    run(&mut args, &mut buf, &mut out);
+}
