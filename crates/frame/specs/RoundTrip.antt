@@ -6,7 +6,7 @@ use mathlib.Core.List.{List, [], _∷_, _++_, append-assoc}
 use lib.ListN.{length, take, drop, length-append}
 use lib.Seq.{take-add, drop-append-seam}
 use lib.Dec.{ltb}
-use borrow.Author.Tests.{le-ltb, eq-eqb, ltb-false}
+use borrow.Author.Tests.{le-ltb, ltb-false}
 use Rattle.wire.specs.Told.{Told, done, viewed, Check, _⇒_, verdict, judged, lent}
 use Rattle.wire.specs.ToldLaws.{holds, let-pass, was-accepted, let-through}
 use Rattle.wire.specs.Layout.{get}
@@ -20,15 +20,14 @@ use Rattle.wire.specs.declared.refusals.Verdict.{Verdict}
 use Rattle.wire.specs.declared.refusals.Verdict.the-variants.{Accept}
 use Rattle.wire.specs.declared.refusals.Written.the-variants as W
 use Rattle.constants.specs.Constants.{headerSize, version10}
-use Rattle.constants.specs.ServiceLaws.{coded}
 use Rattle.constants.specs.declared.ServiceType.{ServiceType}
 use Rattle.header.specs.Header.{fields, values, layout, totalIn}
 use Rattle.header.specs.Header as Header
-use Rattle.header.specs.HeaderLaws.{Proper, proper-holds, got}
+use Rattle.header.specs.HeaderLaws.{Proper, got}
 use Rattle.header.specs.HeaderLaws as HeaderLaws
 use Rattle.header.specs.declared.KnxnetIpHeader.{KnxnetIpHeader}
 use Rattle.frame.specs.Frame.{checks, told, parseBy01, ParsePromise, viewBy01, bodyBy01, dataBy01, BodyPartPromise, DataPartPromise}
-use Rattle.frame.specs.FrameLaws.{told-one}
+use Rattle.frame.specs.FrameLaws.{after-header, told-one}
 use Rattle.frame.specs.Builder.{frame, BuildPromise}
 use Rattle.frame.specs.Builder as Builder
 use Rattle.frame.specs.declared.builder.FrameBuilder.{FrameBuilder}
@@ -38,15 +37,7 @@ use Rattle.frame.specs.declared.fields.FrameAnswer.the-variants.{Frame}
 
 -- a proper header over enough bytes is accepted
 pub proper-stands : (h : KnxnetIpHeader) (n : ℕ) → Proper h → 6 ≤ h .«total_length» → h .«total_length» ≤ n → verdict (checks n (values h)) ≡ Accept
-proper-stands h n p low high =
-    simp (
-      le-ltb n 6 (omega arith),
-      eq-eqb _ _ (p .length-6),
-      eq-eqb _ _ (p .version-1),
-      coded (h .«service_type») .known,
-      le-ltb (h .«total_length») 6 low,
-      le-ltb n (h .«total_length») high,
-    )
+proper-stands h n p low high = after-header h n p (omega arith) ∙ simp (le-ltb (h .«total_length») 6 low, le-ltb n (h .«total_length») high)
 
 -- ---- built, then parsed
 
