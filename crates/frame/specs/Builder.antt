@@ -31,3 +31,10 @@ BuildPromise f body b r after = Writes (checks (length body) (length b)) (frame 
 -- 6 + body
 abbrev pub SizePromise : List ℕ → ℕ → Type 0
 SizePromise body r = r ≡ 6 + length body
+
+-- of a frame with a body of n bytes and a buffer of m: the buffer (1), then a total length that does not fit sixteen bits (5)
+abbrev pub frameChecks : ℕ → ℕ → List Check
+frameChecks n m = room (6 + n) m ∷ ltb 65535 (6 + n) ⇒ PayloadTooLarge ∷ []
+
+abbrev pub WriteFramePromise : ServiceType → List ℕ → List ℕ → List ℕ → List ℕ → Written → List ℕ → Type 0
+WriteFramePromise s a b c before r after = Writes (frameChecks (length (a ++ b ++ c)) (length before)) (frame s (a ++ b ++ c)) before r after

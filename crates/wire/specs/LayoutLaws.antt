@@ -112,8 +112,11 @@ pub paste-front : (b w : List ℕ) → paste b 0 w (length w) ≡ w ++ drop (len
 paste-front b w = rw (take-length w, zero-add (length w))
 
 -- what is copied right behind what was written is written with it
-pub copied-behind : (w src b : List ℕ) → length w + length src ≤ length b → copied src (onto b w) (length w) ≡ onto b (w ++ src)
-copied-behind w src b h =
+pub copied-behind : (w src b : List ℕ) (at : ℕ) → length w ≡ at → at + length src ≤ length b → copied src (onto b w) at ≡ onto b (w ++ src)
+copied-behind w src b at e h =
     let rest : List ℕ = drop (length w) b in
     let fits : length w + length src ≤ length (w ++ rest) = simp (length-append, length-drop) (omega arith) in
-    rw (le-leb (length w + length src) (length (w ++ rest)) fits, take-append-seam w rest, drop-append-add w rest (length src), drop-drop (length src) (length w) b, length-append w src)
+    rw (← e, le-leb (length w + length src) (length (w ++ rest)) fits, take-append-seam w rest, drop-append-add w rest (length src), drop-drop (length src) (length w) b, length-append w src)
+
+pub length-three : (a b c : List ℕ) → length (a ++ b ++ c) ≡ length a + length b + length c
+length-three a b c = length-append (a ++ b) c ∙ ap (λ (k : ℕ). k + length c) (length-append a b)

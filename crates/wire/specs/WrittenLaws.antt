@@ -3,7 +3,7 @@ use Prim.Native.Nat.{ℕ}
 use mathlib.Core.Path.{_≡_, refl, sym, ap, _∙_}
 use mathlib.Core.List.{List, [], _∷_}
 use lib.ListN.{length, getD}
-use Rattle.wire.specs.Told.{Told, done, Check, verdict, lent}
+use Rattle.wire.specs.Told.{Told, done, Check, verdict, answer, lent}
 use Rattle.wire.specs.ToldLaws.{was-accepted, let-through, same, one-to-one, answerOf, back-refused}
 use Rattle.wire.specs.Written.{told, onto, Writes, room, WritePromise}
 use Rattle.wire.specs.declared.refusals.Verdict.{Verdict}
@@ -41,3 +41,10 @@ wrote cs w b n after x =
       count = ap (λ (k : Told). getD (k .values) 0 0) (let-through cs t u refl (x .0));
       bytes = x .1 ∙ ap (λ (v : Verdict). lent v b (onto b w)) (was-accepted cs t u refl (x .0));
     }
+
+-- other checks that say the same, or the same bytes put otherwise
+pub writes-as : (cs ds : List Check) (w v b : List ℕ) (r : Written) (after : List ℕ)
+    → verdict cs ≡ verdict ds → w ≡ v → Writes cs w b r after → Writes ds v b r after
+writes-as cs ds w v b r after e f x =
+    let t : Verdict → List ℕ → Told = λ a l. answer a (done (length l ∷ [])) in
+    (x .0 ∙ ap (λ (a : Verdict). t a w) e ∙ ap (t (verdict ds)) f, x .1 ∙ ap (λ (a : Verdict). lent a b (onto b w)) e ∙ ap (λ (l : List ℕ). lent (verdict ds) b (onto b l)) f)

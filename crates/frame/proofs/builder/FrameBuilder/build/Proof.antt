@@ -1,64 +1,55 @@
--- The header is written first and the body copied right behind it. Assumes nothing.
+-- A body of at most 506 bytes is written whole as the first of three parts, and never too large for sixteen bits. Assumes nothing.
 use Prim.Native.Nat.{ℕ, _+_}
 use mathlib.Core.Path.{_≡_, ap, _∙_}
-use mathlib.Core.List.{List, [], _∷_, _++_}
+use mathlib.Core.List.{List, [], _++_, append-nil}
 use native.Mathlib.Omega.{arith}
 use borrow.Author.Tests.{lt-ltb, le-ltb}
 use lib.ListN.{length}
-use Rattle.wire.specs.Told.{done}
-use Rattle.wire.specs.Layout.{put, copied}
-use Rattle.wire.specs.LayoutLaws.{copied-behind}
-use Rattle.header.specs.Header.{fields, made}
+use Rattle.wire.specs.WrittenLaws.{writes-as}
+use Rattle.wire.specs.Told.{verdict}
+use Rattle.frame.specs.Builder.{checks, frameChecks, frame}
 use borrow.Author.Needs.{needs}
 use Rattle.frame.proofs.builder.FrameBuilder.build.Statement.{statement}
 use Rattle.frame.proofs.builder.FrameBuilder.build.Tie as tie
 
-add-total : tie.Need-add-total
-add-total c = search needs
+add-if1 : tie.Need-add-if1
+add-if1 c = search needs
 
 returns : tie.Need-returns
 returns c = let h = lt-ltb _ _ (c .if1 .taken) in (simp h, simp h)
 
-returns-2 : tie.Need-returns-2
-returns-2 c = let h = le-ltb _ _ (c .before .if1 .left) in let k = lt-ltb _ _ (c .if2 .taken) in (simp (h, k), simp (h, k))
+slice-aggregate-write-frame : tie.Need-slice-aggregate-write-frame
+slice-aggregate-write-frame c = search needs
 
-cast-t11 : tie.Need-cast-t11
-cast-t11 c = search needs
+slice-aggregate-write-frame-2 : tie.Need-slice-aggregate-write-frame-2
+slice-aggregate-write-frame-2 c = search needs
 
-encode-requires : tie.Need-encode-requires
-encode-requires c κs = search needs
-
-copy-at-requires : tie.Need-copy-at-requires
-copy-at-requires c κs = search needs
+write-frame-requires : tie.Need-write-frame-requires
+write-frame-requires c κs = search needs
 
 same-length : tie.Need-same-length
 same-length c = search needs
 
-returns-3 : tie.Need-returns-3
-returns-3 c =
-    let at-encode = c .before .before .before .before .before .before in
-    let at-if2 = at-encode .before .before in
-    let a = at-if2 .before .before .before .before .args in
+returns-2 : tie.Need-returns-2
+returns-2 c = 
+    let at-write = c .before .before in
+    let a = at-write .before .before .before .before .before .before .before .args in
     let body : List ℕ = a .body .now in
     let b : List ℕ = a .buf .now in
-    let small = le-ltb _ _ (at-if2 .before .if1 .left) in
-    let fits = le-ltb _ _ (at-if2 .if2 .left) in
-    let header : List ℕ = put fields (made (a .self .«service_type») (length body)) in
-    let wrote = rw (le-ltb (length b) 6 (omega arith)) at (at-encode .encode .ensures .1) in
-    let total : 6 + length body ≡ length (header ++ body) = omega arith in (
-      simp (small, fits) (ap (λ (k : ℕ). done (k ∷ [])) total),
-      simp (small, fits) (c .before .before .copy-at .ensures ∙ ap (λ (l : List ℕ). copied body l 6) wrote ∙ copied-behind header body b (omega arith)),
-    )
+    let small = at-write .before .before .before .before .if1 .left in
+    let alone : body ++ [] ++ [] ≡ body = append-nil (body ++ []) ∙ append-nil body in
+    let same : verdict (frameChecks (length (body ++ [] ++ [])) (length b)) ≡ verdict (checks (length body) (length b)) =
+    ap (λ (l : List ℕ). verdict (frameChecks (length l) (length b))) alone ∙ simp (le-ltb 65535 (6 + length body) (omega arith), le-ltb 512 (6 + length body) small) in
+    writes-as (frameChecks (length (body ++ [] ++ [])) (length b)) (checks (length body) (length b)) (frame (a .self .«service_type») (body ++ [] ++ [])) (frame (a .self .«service_type») body) b (at-write .write-frame .result) (at-write .write-frame .last .1 .1 .1 .1 .0) same (ap (frame (a .self .«service_type»)) alone) (at-write .write-frame .ensures)
 
 pub build-spec : {M : Type 1} → statement M
 build-spec =
     tie.close
     (tie.spec
-    add-total
+    add-if1
     returns
-    returns-2
-    cast-t11
-    encode-requires
-    copy-at-requires
+    slice-aggregate-write-frame
+    slice-aggregate-write-frame-2
+    write-frame-requires
     same-length
-    returns-3)
+    returns-2)
