@@ -1,17 +1,18 @@
 -- How a frame is laid into a buffer, part behind part. Assumes nothing.
 use Prim.Native.Nat.{ℕ, _+_, _≤_}
 use native.Mathlib.Omega.{arith}
-use mathlib.Core.Path.{_≡_, refl, sym, ap, _∙_}
+use mathlib.Core.Path.{_≡_, refl, ap, _∙_, subst}
 use mathlib.Core.List.{List, [], _∷_, _++_}
 use lib.ListN.{length, length-append}
 use Rattle.wire.specs.Layout.{put, copied}
 use Rattle.wire.specs.LayoutLaws.{copied-behind, length-three}
 use Rattle.wire.specs.Written.{onto}
+use Rattle.wire.specs.declared.refusals.Written.{Written}
 use Rattle.constants.specs.Constants.{headerSize, version10}
 use Rattle.constants.specs.Services.{codeOf}
 use Rattle.constants.specs.declared.ServiceType.{ServiceType}
 use Rattle.header.specs.Header.{fields}
-use Rattle.frame.specs.Builder.{frame}
+use Rattle.frame.specs.Builder.{frame, WriteFramePromise}
 
 -- the header of a total length
 abbrev pub lead : ServiceType → ℕ → List ℕ
@@ -37,3 +38,8 @@ laid s a b c buf one two three four room e₁ e₂ e₃ e₄ =
     e₄ ∙ ap (λ (l : List ℕ). copied c l (6 + length a + length b)) behind-b ∙ copied-behind (w ++ a ++ b) c buf (6 + length a + length b) at-c (omega arith) in
     let whole : total ≡ 6 + length (a ++ b ++ c) = omega (arith, length-three a b c) in
     behind-c ∙ ap (λ (t : ℕ). onto buf (lead s t ++ (a ++ b ++ c))) whole
+
+-- the same body put otherwise
+pub same-body : (s : ServiceType) (body other before : List ℕ) (r : Written) (after : List ℕ)
+    → body ≡ other → WriteFramePromise s body before r after → WriteFramePromise s other before r after
+same-body s body other before r after e x = subst (λ (l : List ℕ). WriteFramePromise s l before r after) e x

@@ -13,7 +13,7 @@ use Rattle.wire.specs.Layout.{get}
 use Rattle.wire.specs.LayoutLaws.{Bytes}
 use Rattle.wire.specs.Parts.{partOf, shown}
 use Rattle.wire.specs.PartLaws.{part-is, part-between}
-use Rattle.wire.specs.Written.{onto, tells, leaves}
+use Rattle.wire.specs.Written.{onto, tells, leaves, Writes}
 use Rattle.wire.specs.WrittenLaws.{wrote}
 use Rattle.wire.specs.declared.refusals.Refusal.the-variants.{InvalidFrame}
 use Rattle.wire.specs.declared.refusals.Verdict.{Verdict}
@@ -83,13 +83,16 @@ back s body b =
       rest-back = ap (λ (k : ℕ). drop k (w ++ rest)) long ∙ drop-append-seam w rest ∙ ap (λ (k : ℕ). drop k b) (sym long);
     }
 
--- what `build` answered and wrote comes back
+-- what any builder of a frame answered and wrote comes back
+pub frame-back : (cs : List Check) (s : ServiceType) (body b : List ℕ) (n : ℕ) (after : List ℕ)
+    → Writes cs (frame s body) b (W.Bytes n) after → (n ≡ 6 + length body) × Back s body b after
+frame-back cs s body b n after promised =
+    let w = wrote cs (frame s body) b n after promised in
+    (w .count ∙ omega arith, subst (Back s body b) (sym (w .bytes)) (back s body b))
+
 pub build-back : (f : FrameBuilder) (body b : List ℕ) (n : ℕ) (after : List ℕ)
     → BuildPromise f body b (W.Bytes n) after → (n ≡ 6 + length body) × Back (f .«service_type») body b after
-build-back f body b n after promised =
-    let s : ServiceType = f .«service_type» in
-    let w = wrote (Builder.checks (length body) (length b)) (frame s body) b n after promised in
-    (w .count ∙ omega arith, subst (Back s body b) (sym (w .bytes)) (back s body b))
+build-back f body b = frame-back (Builder.checks (length body) (length b)) (f .«service_type») body b
 
 pub build-parse : (f : FrameBuilder) (body b : List ℕ) (n : ℕ) (after : List ℕ) (r : FrameAnswer)
     → BuildPromise f body b (W.Bytes n) after → ParsePromise after r → r ≡ Frame (built (f .«service_type») body)

@@ -25,7 +25,7 @@ impl FrameBuilder {
             return Written::Refused(Refusal::PayloadTooLarge);
         }
         let service_type = self.service_type;
-        write_frame(service_type, body, &body[..0], &body[..0], buf)
+        write_frame(service_type, body, buf)
     }
 
     // A slice is shorter than half of what a `usize` counts, so the sum never wraps.

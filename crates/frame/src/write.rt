@@ -2,7 +2,7 @@
 ghost use mathlib.Core.Path.{_≡_};
 ghost use Prim.Native.Nat.{_+_};
 ghost use lib.Dec.{ltb};
-ghost use Rattle.frame.specs.Builder.{WriteFramePromise};
+ghost use Rattle.frame.specs.Builder.{WriteFramePromise, WriteFrame2Promise, WriteFrame3Promise};
 use constants::HEADER_SIZE_10;
 use constants::KNXNETIP_VERSION_10;
 use constants::ServiceType;
@@ -10,8 +10,22 @@ use header::KnxnetIpHeader;
 use wire::Refusal;
 use wire::Written;
 
-pub fn write_frame(service_type: ServiceType, a: &[u8], b: &[u8], c: &[u8], buf: &mut [u8]) -> Written
-    ensures { λ r. ⌜ WriteFramePromise «service_type» (now (a .entry)) (now (b .entry)) (now (c .entry)) (now (buf .entry)) r (now (buf .exit)) ⌝ }
+// A frame of one part.
+pub fn write_frame(service_type: ServiceType, body: &[u8], buf: &mut [u8]) -> Written
+    ensures { λ r. ⌜ WriteFramePromise «service_type» (now (body .entry)) (now (buf .entry)) r (now (buf .exit)) ⌝ }
+{
+    write_frame2(service_type, body, &body[..0], buf)
+}
+
+// A frame of two parts.
+pub fn write_frame2(service_type: ServiceType, a: &[u8], b: &[u8], buf: &mut [u8]) -> Written
+    ensures { λ r. ⌜ WriteFrame2Promise «service_type» (now (a .entry)) (now (b .entry)) (now (buf .entry)) r (now (buf .exit)) ⌝ }
+{
+    write_frame3(service_type, a, b, &b[..0], buf)
+}
+
+pub fn write_frame3(service_type: ServiceType, a: &[u8], b: &[u8], c: &[u8], buf: &mut [u8]) -> Written
+    ensures { λ r. ⌜ WriteFrame3Promise «service_type» (now (a .entry)) (now (b .entry)) (now (c .entry)) (now (buf .entry)) r (now (buf .exit)) ⌝ }
 {
     if short(buf.len(), a.len(), b.len(), c.len()) {
         return Written::Refused(Refusal::BufferTooSmall);

@@ -25,6 +25,12 @@ pub layout-is : (h : Hpai) → length (h .«ip_address») ≡ 4
 layout-is h q =
     ap (λ (ip : List ℕ). put fields (h .«structure_length» ∷ h .«host_protocol» ∷ (ip ++ h .port ∷ []))) (sym (run-all 4 (h .«ip_address») q))
 
+pub length-values : (h : Hpai) → length (h .«ip_address») ≡ 4 → length (values h) ≡ 7
+length-values h q = omega (arith, length-append (h .«ip_address») (h .port ∷ []))
+
+pub length-layout : (h : Hpai) → length (h .«ip_address») ≡ 4 → length (layout h) ≡ 8
+length-layout h q = length-put fields (values h) (length-values h q)
+
 -- ---- no second answer
 
 -- the Hpai with these values: the port is the last of them
@@ -66,8 +72,8 @@ accepted h = record { number = 0; hpai = h }
 pub reads-back : (h : Hpai) (rest : List ℕ) → Proper h → parseBy01 (layout h ++ rest) ≡ told (accepted h)
 reads-back h rest p =
     let n : ℕ = length (layout h ++ rest) in
-    let seven : length (values h) ≡ 7 = omega (arith, length-append (h .«ip_address») (h .port ∷ []), p .address-4) in
-    let eight : 8 ≤ n = omega (arith, length-append (layout h) rest, length-put fields (values h) seven) in
+    let seven : length (values h) ≡ 7 = length-values h (p .address-4) in
+    let eight : 8 ≤ n = omega (arith, length-append (layout h) rest, length-layout h (p .address-4)) in
     let held : verdict (checks n (values h)) ≡ verdict [] = simp (le-ltb n 8 eight, eq-eqb _ _ (p .length-8)) in
     ap (λ (vs : List ℕ). judged (checks n vs) (done vs)) (get-put fields (values h) [] rest 0 refl seven) ∙ let-pass (checks n (values h)) (done (values h)) held
 

@@ -1,5 +1,5 @@
 // Host protocol address information: frame.rs, `Hpai`. It holds an array, so its answer is a struct with the number beside it.
-ghost use Rattle.hpai.specs.Hpai.{NewPromise, ParsePromise, EncodePromise, RefusedPromise};
+ghost use Rattle.hpai.specs.Hpai.{NewPromise, ParsePromise, EncodePromise, ToBytesPromise, RefusedPromise};
 use constants::IPV4_UDP;
 use wire::Refusal;
 use wire::Written;
@@ -55,8 +55,15 @@ impl Hpai {
     pub fn encode(self, buf: &mut [u8]) -> Written
         ensures { λ r. ⌜ EncodePromise self (now (buf .entry)) r (now (buf .exit)) ⌝ }
     {
+        let bytes = self.to_bytes();
+        wire::write(&bytes, buf)
+    }
+
+    pub fn to_bytes(self) -> [u8; 8]
+        ensures { λ r. ⌜ ToBytesPromise self r ⌝ }
+    {
         let ip = self.ip_address;
-        let bytes = [
+        [
             self.structure_length,
             self.host_protocol,
             ip[0],
@@ -65,8 +72,7 @@ impl Hpai {
             ip[3],
             wire::high(self.port),
             wire::low(self.port),
-        ];
-        wire::write(&bytes, buf)
+        ]
     }
 }
 

@@ -1,12 +1,12 @@
 -- Laws of `Numbers`, `Told`, `Written` and `Parts`: a number says which refusal; what an answer tells says which answer; checks one after another. Assumes nothing.
-use Prim.Native.Nat.{ℕ, _≤_}
+use Prim.Native.Nat.{ℕ, _≤_, _<_}
 use native.Mathlib.Omega.{arith}
 use mathlib.Core.Path.{_≡_, refl, sym, ap, _∙_}
 use mathlib.Core.Bool.{Bool, true, false, cond}
 use mathlib.Core.List.{List, [], _∷_, _++_}
 use lib.ListN.{length, getD, replicate}
-use lib.Dec.{eqb}
-use borrow.Author.Tests.{ne-eqb}
+use lib.Dec.{eqb, ltb}
+use borrow.Author.Tests.{ne-eqb, ltb-true, ltb-false}
 use Rattle.wire.specs.Numbers.{numberOf}
 use Rattle.wire.specs.Told.{Told, refused, Check, _⇒_, verdict, answer, judged}
 use Rattle.wire.specs.declared.refusals.Refusal.{Refusal}
@@ -93,6 +93,16 @@ let-pass cs t q = ap (λ (v : Verdict). answer v t) q
 -- where one refuses, the answer is that refusal
 pub let-refuse : (cs : List Check) (t : Told) (e : Refusal) → verdict cs ≡ Refuse e → judged cs t ≡ refused (length (t .values)) e
 let-refuse cs t e q = ap (λ (v : Verdict). answer v t) q
+
+-- two tests of the same fact
+pub same-test : (a b c d : ℕ) → (a < b → c < d) → (c < d → a < b) → ltb a b ≡ ltb c d
+same-test a b c d f g = go (ltb a b) (ltb c d) refl refl
+  where
+    go : (x y : Bool) → ltb a b ≡ x → ltb c d ≡ y → x ≡ y
+    go true true p q = refl
+    go false false p q = refl
+    go true false p q = let h = f (ltb-true a b p) in absurd (omega (arith, ltb-false c d q))
+    go false true p q = let h = g (ltb-true c d q) in absurd (omega (arith, ltb-false a b p))
 
 -- ---- from what an answer tells back to the checks
 

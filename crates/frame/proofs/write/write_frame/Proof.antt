@@ -1,130 +1,26 @@
--- The header is written first, and each part is copied right behind what stands. Assumes nothing.
-use Prim.Native.Nat.{ℕ, _+_, _≤_}
-use mathlib.Core.Path.{_≡_, ap, sym, _∙_}
-use mathlib.Core.List.{List, [], _∷_, _++_}
-use native.Mathlib.Omega.{arith}
-use borrow.Author.Tests.{lt-ltb, le-ltb, ltb-true, ltb-false}
-use lib.ListN.{length}
-use Rattle.wire.specs.Told.{done}
-use Rattle.wire.specs.LayoutLaws.{length-three}
-use Rattle.frame.specs.BuilderLaws.{lead, laid}
+-- The second part is empty. Assumes nothing.
+use mathlib.Core.List.{[], _++_, append-nil}
+use Rattle.frame.specs.BuilderLaws.{same-body}
 use borrow.Author.Needs.{needs}
 use Rattle.frame.proofs.write.write_frame.Statement.{statement}
 use Rattle.frame.proofs.write.write_frame.Tie as tie
 
-short-requires : tie.Need-short-requires
-short-requires c κs = search needs
+slice-aggregate-write-frame2 : tie.Need-slice-aggregate-write-frame2
+slice-aggregate-write-frame2 c = search needs
 
-returns : tie.Need-returns
-returns c = 
-    let a = c .before .before .before .before .before .before .args in
-    let m : ℕ = length (a .buf .now) in
-    let sum : ℕ = 6 + length (a .a .now) + length (a .b .now) + length (a .c .now) in
-    let body : List ℕ = a .a .now ++ a .b .now ++ a .c .now in
-    let three = length-three (a .a .now) (a .b .now) (a .c .now) in
-    let full = ltb-true m sum (sym (c .before .short .ensures) ∙ c .if1 .taken) in
-    let h = lt-ltb m (6 + length body) (omega arith) in
-    (simp h, simp h)
-
-add-total : tie.Need-add-total
-add-total c = search needs
-
-add-total-2 : tie.Need-add-total-2
-add-total-2 c = 
-    let a = c .before .before .before .before .before .before .args in
-    let m : ℕ = length (a .buf .now) in
-    let sum : ℕ = 6 + length (a .a .now) + length (a .b .now) + length (a .c .now) in
-    let body : List ℕ = a .a .now ++ a .b .now ++ a .c .now in
-    let three = length-three (a .a .now) (a .b .now) (a .c .now) in
-    let fits = ltb-false m sum (sym (c .before .short .ensures) ∙ c .if1 .left) in
-    omega arith
-
-add-total-3 : tie.Need-add-total-3
-add-total-3 c = 
-    let a = c .before .before .before .before .before .before .args in
-    let m : ℕ = length (a .buf .now) in
-    let sum : ℕ = 6 + length (a .a .now) + length (a .b .now) + length (a .c .now) in
-    let body : List ℕ = a .a .now ++ a .b .now ++ a .c .now in
-    let three = length-three (a .a .now) (a .b .now) (a .c .now) in
-    let fits = ltb-false m sum (sym (c .before .short .ensures) ∙ c .if1 .left) in
-    omega arith
-
-returns-2 : tie.Need-returns-2
-returns-2 c = 
-    let a = c .before .before .before .before .before .before .before .args in
-    let m : ℕ = length (a .buf .now) in
-    let sum : ℕ = 6 + length (a .a .now) + length (a .b .now) + length (a .c .now) in
-    let body : List ℕ = a .a .now ++ a .b .now ++ a .c .now in
-    let three = length-three (a .a .now) (a .b .now) (a .c .now) in
-    let fits = ltb-false m sum (sym (c .before .before .short .ensures) ∙ c .before .if1 .left) in
-    let h = le-ltb m (6 + length body) (omega arith) in
-    let k = lt-ltb 65535 (6 + length body) (omega arith) in
-    (simp (h, k), simp (h, k))
-
-cast-t17 : tie.Need-cast-t17
-cast-t17 c = search needs
-
-encode-requires : tie.Need-encode-requires
-encode-requires c κs = search needs
-
-copy-at-requires : tie.Need-copy-at-requires
-copy-at-requires c κs = search needs
-
-add-copy-at : tie.Need-add-copy-at
-add-copy-at c = search needs
-
-copy-at-requires-2 : tie.Need-copy-at-requires-2
-copy-at-requires-2 c κs = search needs
-
-add-copy-at-2 : tie.Need-add-copy-at-2
-add-copy-at-2 c = search needs
-
-add-copy-at-3 : tie.Need-add-copy-at-3
-add-copy-at-3 c = search needs
-
-copy-at-requires-3 : tie.Need-copy-at-requires-3
-copy-at-requires-3 c κs = search needs
+write-frame2-requires : tie.Need-write-frame2-requires
+write-frame2-requires c κs = search needs
 
 same-length : tie.Need-same-length
 same-length c = search needs
 
-returns-3 : tie.Need-returns-3
-returns-3 c = 
-    let a = c .before .before .before .before .before .before .before .before .before .before .before .before .before .before .before .before .before .before .before .before .before .before .before .args in
-    let m : ℕ = length (a .buf .now) in
-    let sum : ℕ = 6 + length (a .a .now) + length (a .b .now) + length (a .c .now) in
-    let body : List ℕ = a .a .now ++ a .b .now ++ a .c .now in
-    let three = length-three (a .a .now) (a .b .now) (a .c .now) in
-    let at-encode = c .before .before .before .before .before .before .before .before .before .before .before .before .before .before in
-    let fits = ltb-false m sum (sym (c .before .before .before .before .before .before .before .before .before .before .before .before .before .before .before .before .before .before .short .ensures) ∙ c .before .before .before .before .before .before .before .before .before .before .before .before .before .before .before .before .before .if1 .left) in
-    let small = c .before .before .before .before .before .before .before .before .before .before .before .before .before .before .before .before .if2 .left in
-    let h = le-ltb m (6 + length body) (omega arith) in
-    let k = le-ltb 65535 (6 + length body) (omega arith) in
-    let total : sum ≡ length (lead (a .service-type) 0 ++ body) = omega arith in
-    let headed = rw (le-ltb m 6 (omega arith)) at (at-encode .encode .ensures .1) in (
-      simp (h, k) (ap (λ (t : ℕ). done (t ∷ [])) total),
-      simp (h, k)
-          (laid (a .service-type) (a .a .now) (a .b .now) (a .c .now) (a .buf .now) (at-encode .encode .last .1 .0) (c .before .before .before .before .before .before .before .before .before .before .copy-at .last .1 .0) (c .before .before .before .before .before .before .copy-at2 .last .1 .0) (c .before .before .copy-at3 .last .1 .0)
-          (omega arith) headed (c .before .before .before .before .before .before .before .before .before .before .copy-at .ensures) (c .before .before .before .before .before .before .copy-at2 .ensures) (c .before .before .copy-at3 .ensures)),
-    )
+returns : tie.Need-returns
+returns c = 
+    let at-write = c .before .before in
+    let a = at-write .before .before .before .before .before .args in
+    same-body (a .service-type) (a .body .now ++ []) (a .body .now) (a .buf .now) (at-write .write-frame2 .result) (at-write .write-frame2 .last .1 .1 .1 .0)
+    (append-nil (a .body .now)) (at-write .write-frame2 .ensures)
 
 pub write-frame-spec : {M : Type 1} → statement M
 write-frame-spec =
-    tie.close
-    (tie.spec
-    short-requires
-    returns
-    add-total
-    add-total-2
-    add-total-3
-    returns-2
-    cast-t17
-    encode-requires
-    copy-at-requires
-    add-copy-at
-    copy-at-requires-2
-    add-copy-at-2
-    add-copy-at-3
-    copy-at-requires-3
-    same-length
-    returns-3)
+    tie.close (tie.spec slice-aggregate-write-frame2 write-frame2-requires same-length returns)

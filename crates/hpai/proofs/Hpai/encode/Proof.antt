@@ -1,32 +1,19 @@
--- The bytes that are written are the layout, whose address has four bytes. Assumes nothing.
+-- Eight bytes are asked for, and eight are written. Assumes nothing.
+use mathlib.Core.Path.{_≡_, ap, _∙_}
+use mathlib.Core.List.{[], _∷_}
 use Prim.Native.Nat.{ℕ}
-use mathlib.Core.Path.{_≡_, sym, subst}
-use mathlib.Core.List.{List}
 use lib.ListN.{length}
-use Rattle.wire.specs.Written.{Writes}
-use Rattle.hpai.specs.Hpai.{encodeChecks}
-use Rattle.hpai.specs.HpaiLaws.{layout-is}
+use Rattle.wire.specs.Told.{verdict}
+use Rattle.wire.specs.Written.{room}
+use Rattle.wire.specs.WrittenLaws.{writes-as}
+use Rattle.hpai.specs.Hpai.{layout, encodeChecks}
+use Rattle.hpai.specs.HpaiLaws.{length-layout}
 use borrow.Author.Needs.{needs}
 use Rattle.hpai.proofs.Hpai.encode.Statement.{statement}
 use Rattle.hpai.proofs.Hpai.encode.Tie as tie
 
-array-read-t7 : tie.Need-array-read-t7
-array-read-t7 c = search needs
-
-array-read-t10 : tie.Need-array-read-t10
-array-read-t10 c = search needs
-
-array-read-t13 : tie.Need-array-read-t13
-array-read-t13 c = search needs
-
-array-read-t16 : tie.Need-array-read-t16
-array-read-t16 c = search needs
-
-high-requires : tie.Need-high-requires
-high-requires c κs = search needs
-
-low-requires : tie.Need-low-requires
-low-requires c κs = search needs
+to-bytes-requires : tie.Need-to-bytes-requires
+to-bytes-requires c κs = search needs
 
 slice-aggregate-write : tie.Need-slice-aggregate-write
 slice-aggregate-write c = search needs
@@ -38,26 +25,15 @@ same-length : tie.Need-same-length
 same-length c = search needs
 
 returns : tie.Need-returns
-returns c =
-    let at-high = c .before .before .before .before .before .before in
-    let a = at-high .before .before .before .args in
-    let four : length (a .self .«ip_address») ≡ 4 = search needs in
+returns c = 
     let at-write = c .before .before in
-    subst (λ (w : List ℕ). Writes (encodeChecks (length (a .buf .now))) w (a .buf .now) (at-write .write .result) (at-write .write .last .1 .0))
-    (sym (layout-is (a .self) four))
-    (simp (at-high .high .ensures, at-write .before .before .before .low .ensures) at (at-write .write .ensures))
+    let made = at-write .before .before .before .to-bytes in
+    let a = at-write .before .before .before .before .before .args in
+    let m = length (a .buf .now) in
+    let eight : length (made .result) ≡ 8 = ap length (made .ensures) ∙ length-layout (a .self) (search needs) in
+    writes-as (room (length (made .result)) m ∷ []) (encodeChecks m) (made .result) (layout (a .self)) (a .buf .now) (at-write .write .result) (at-write .write .last .1 .0)
+    (ap (λ (k : ℕ). verdict (room k m ∷ [])) eight) (made .ensures) (at-write .write .ensures)
 
 pub encode-spec : {M : Type 1} → statement M
 encode-spec =
-    tie.close
-    (tie.spec
-    array-read-t7
-    array-read-t10
-    array-read-t13
-    array-read-t16
-    high-requires
-    low-requires
-    slice-aggregate-write
-    write-requires
-    same-length
-    returns)
+    tie.close (tie.spec to-bytes-requires slice-aggregate-write write-requires same-length returns)
