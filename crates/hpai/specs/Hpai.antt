@@ -24,8 +24,9 @@ values h = h .«structure_length» ∷ h .«host_protocol» ∷ (h .«ip_address
 abbrev pub layout : Hpai → List ℕ
 layout h = put fields (values h)
 
+-- the layout, which has eight bytes since an address has four
 abbrev pub ToBytesPromise : Hpai → List ℕ → Type 0
-ToBytesPromise h r = r ≡ layout h
+ToBytesPromise h r = (r ≡ layout h) × (length r ≡ size fields)
 
 -- of an input of n bytes with these values: fewer than 8 (1), length byte not 8 (2); the protocol byte is not checked
 abbrev pub checks : ℕ → List ℕ → List Check

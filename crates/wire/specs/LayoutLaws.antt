@@ -6,7 +6,7 @@ use native.Mathlib.Omega.{arith}
 use mathlib.Core.Path.{_≡_, refl, sym, ap, _∙_}
 use mathlib.Core.List.{List, [], _∷_, _++_, append-assoc}
 use lib.ListN.{length, getD, take, drop, length-append, length-drop, take-append-drop}
-use lib.Seq.{drop-cons, drop-drop, take-add, getD-at, append-snoc, take-at, drop-at, length-take-le, take-length, take-all, paste, take-append-seam, drop-append-add}
+use lib.Seq.{getD-take, getD-drop, drop-cons, drop-drop, take-add, getD-at, append-snoc, take-at, drop-at, length-take-le, take-length, take-all, paste, take-append-seam, drop-append-add}
 use borrow.Author.Tests.{le-leb}
 use Rattle.wire.specs.Layout.{wordOf, highOf, lowOf, wordAt, runAt, Field, byte, word, run, size, put, get, copied}
 use Rattle.wire.specs.Written.{onto}
@@ -63,6 +63,31 @@ put-get (run n ∷ fs) at s b h =
     let r : List ℕ = runAt n s at in
     rw (take-at r (get fs (at + n) s) n (length-run n s at), drop-at r (get fs (at + n) s) n (length-run n s at), run-is n s at (omega arith), put-get fs (at + n) s b (omega arith), ← drop-drop n at s)
     (sym (take-add n (size fs) (drop at s)))
+
+-- ---- reading from a part of a slice
+
+getD-part : (k a at : ℕ) (s : List ℕ) → at < k → getD (take k (drop a s)) at 0 ≡ getD s (a + at) 0
+getD-part k a at s h = getD-take k (drop a s) at 0 h ∙ getD-drop a s at 0
+
+run-part : (n k a at : ℕ) (s : List ℕ) → at + n ≤ k → runAt n (take k (drop a s)) at ≡ runAt n s (a + at)
+run-part zero k a at s h = refl
+run-part (suc n) k a at s h =
+    let next-place : a + (at + 1) ≡ a + at + 1 = omega arith in
+    rw (getD-part k a at s (omega arith), run-part n k a (at + 1) s (omega arith), next-place)
+
+-- the values at a place of a part are those at the same place of the whole
+pub get-part : (fs : List Field) (k a at : ℕ) (s : List ℕ) → at + size fs ≤ k → get fs at (take k (drop a s)) ≡ get fs (a + at) s
+get-part [] k a at s h = refl
+get-part (byte ∷ fs) k a at s h =
+    let next-place : a + (at + 1) ≡ a + at + 1 = omega arith in
+    rw (getD-part k a at s (omega arith), get-part fs k a (at + 1) s (omega arith), next-place)
+get-part (word ∷ fs) k a at s h =
+    let low-place : a + (at + 1) ≡ a + at + 1 = omega arith in
+    let next-place : a + (at + 2) ≡ a + at + 2 = omega arith in
+    rw (getD-part k a at s (omega arith), getD-part k a (at + 1) s (omega arith), get-part fs k a (at + 2) s (omega arith), low-place, next-place)
+get-part (run n ∷ fs) k a at s h =
+    let next-place : a + (at + n) ≡ a + at + n = omega arith in
+    rw (run-part n k a at s (omega arith), get-part fs k a (at + n) s (omega arith), next-place)
 
 -- ---- writing, then reading
 

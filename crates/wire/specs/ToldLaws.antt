@@ -129,6 +129,12 @@ let-through cs t u z q = q ∙ let-pass cs t (was-accepted cs t u z q)
 pub was-refused : (cs : List Check) (t : Told) (k : ℕ) (e : Refusal) → t .number ≡ 0 → refused k e ≡ judged cs t → verdict cs ≡ Refuse e
 was-refused cs t k e z q = refused-by (verdict cs) t k e z q
 
+-- a refusal that comes by its number brings the zeros of the answer that it stands for
+pub refused-as : (v : Verdict) (t u : Told) (n : ℕ) → t .number ≡ 0 → n ≡ answer v t .number → (n ≡ 0 → ⊥)
+    → record { number = n; values = replicate (length (u .values)) 0; start = 0; end = 0 } ≡ answer v u
+refused-as Accept t u n z q some = absurd (some (q ∙ z))
+refused-as (Refuse e) t u n z q some = ap (λ (k : ℕ). record { number = k; values = replicate (length (u .values)) 0; start = 0; end = 0 }) q
+
 -- ---- from what an answer tells back to the answer
 
 -- a promise that says `r ≡ x` has no second answer

@@ -15,7 +15,7 @@ same-length : tie.Need-same-length
 same-length c = search needs
 
 returns : tie.Need-returns
-returns c = 
+returns c =
     let at-write = c .before .before in
     let a = at-write .before .before .before .before .before .before .args in
     same-body (a .service-type) (a .a .now ++ a .b .now ++ []) (a .a .now ++ a .b .now) (a .buf .now) (at-write .write-frame3 .result) (at-write .write-frame3 .last .1 .1 .1 .1 .0)

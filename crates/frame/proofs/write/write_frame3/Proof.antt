@@ -16,7 +16,7 @@ short-requires : tie.Need-short-requires
 short-requires c κs = search needs
 
 returns : tie.Need-returns
-returns c = 
+returns c =
     let a = c .before .before .before .before .before .before .args in
     let m : ℕ = length (a .buf .now) in
     let sum : ℕ = 6 + length (a .a .now) + length (a .b .now) + length (a .c .now) in
@@ -30,7 +30,7 @@ add-total : tie.Need-add-total
 add-total c = search needs
 
 add-total-2 : tie.Need-add-total-2
-add-total-2 c = 
+add-total-2 c =
     let a = c .before .before .before .before .before .before .args in
     let m : ℕ = length (a .buf .now) in
     let sum : ℕ = 6 + length (a .a .now) + length (a .b .now) + length (a .c .now) in
@@ -40,7 +40,7 @@ add-total-2 c =
     omega arith
 
 add-total-3 : tie.Need-add-total-3
-add-total-3 c = 
+add-total-3 c =
     let a = c .before .before .before .before .before .before .args in
     let m : ℕ = length (a .buf .now) in
     let sum : ℕ = 6 + length (a .a .now) + length (a .b .now) + length (a .c .now) in
@@ -50,7 +50,7 @@ add-total-3 c =
     omega arith
 
 returns-2 : tie.Need-returns-2
-returns-2 c = 
+returns-2 c =
     let a = c .before .before .before .before .before .before .before .args in
     let m : ℕ = length (a .buf .now) in
     let sum : ℕ = 6 + length (a .a .now) + length (a .b .now) + length (a .c .now) in
@@ -89,7 +89,7 @@ same-length : tie.Need-same-length
 same-length c = search needs
 
 returns-3 : tie.Need-returns-3
-returns-3 c = 
+returns-3 c =
     let a = c .before .before .before .before .before .before .before .before .before .before .before .before .before .before .before .before .before .before .before .before .before .before .before .args in
     let m : ℕ = length (a .buf .now) in
     let sum : ℕ = 6 + length (a .a .now) + length (a .b .now) + length (a .c .now) in

@@ -27,7 +27,7 @@ same-length : tie.Need-same-length
 same-length c = search needs
 
 returns : tie.Need-returns
-returns c = 
+returns c =
     let at-write = c .before .before in
     let made = c .before .before .before .before .before .to-bytes in
     let a = c .before .before .before .before .before .before .before .before .before .args in

@@ -1,0 +1,96 @@
+-- Connection state and disconnect: requests of 16 bytes, a shorter buffer is 1; responses need 2 bytes. Each shape is said once. Assumes nothing.
+use Prim.Native.Nat.{ℕ}
+use mathlib.Core.Path.{_≡_}
+use mathlib.Core.Bool.{Bool}
+use mathlib.Core.List.{List, [], _∷_, _++_}
+use lib.ListN.{length}
+use lib.Dec.{ltb, eqb}
+use Rattle.wire.specs.Told.{Told, done, refused, Check, _⇒_, judged}
+use Rattle.wire.specs.Written.{Writes, room}
+use Rattle.wire.specs.Layout.{Field, byte, size, put, get}
+use Rattle.wire.specs.declared.refusals.Refusal.{Refusal}
+use Rattle.wire.specs.declared.refusals.Refusal.the-variants.{BufferTooSmall}
+use Rattle.wire.specs.declared.refusals.Written.{Written}
+use Rattle.constants.specs.declared.ServiceType.{ServiceType}
+use Rattle.constants.specs.declared.ServiceType.the-variants as S
+use Rattle.frame.specs.Builder.{frame}
+use Rattle.hpai.specs.Hpai as Hpai
+use Rattle.hpai.specs.declared.Hpai.{Hpai}
+use Rattle.connect.specs.declared.channel.ConnectionStateRequest.{ConnectionStateRequest}
+use Rattle.connect.specs.declared.channel.ConnectionStateResponse.{ConnectionStateResponse}
+use Rattle.connect.specs.declared.channel.ConnectionStateAnswer.{ConnectionStateAnswer}
+use Rattle.connect.specs.declared.channel.ConnectionStateAnswer.the-variants as C
+use Rattle.connect.specs.declared.channel.DisconnectRequest.{DisconnectRequest}
+use Rattle.connect.specs.declared.channel.DisconnectResponse.{DisconnectResponse}
+use Rattle.connect.specs.declared.channel.DisconnectAnswer.{DisconnectAnswer}
+use Rattle.connect.specs.declared.channel.DisconnectAnswer.the-variants as D
+use Rattle.connect.specs.declared.channel.StatusAnswer.{StatusAnswer}
+use Rattle.connect.specs.declared.channel.StatusAnswer.the-variants as A
+
+-- ---- requests: channel, a zero, the control endpoint
+
+abbrev pub requestLayout : ℕ → Hpai → List ℕ
+requestLayout channel h = put (byte ∷ byte ∷ []) (channel ∷ 0 ∷ []) ++ Hpai.layout h
+
+-- a buffer shorter than 16 (1)
+abbrev pub requestChecks : ℕ → List Check
+requestChecks m = room 16 m ∷ []
+
+abbrev pub RequestPromise : ServiceType → ℕ → Hpai → List ℕ → Written → List ℕ → Type 0
+RequestPromise s channel h b r after = Writes (requestChecks (length b)) (frame s (requestLayout channel h)) b r after
+
+abbrev pub StateNewPromise : ℕ → Hpai → ConnectionStateRequest → Type 0
+StateNewPromise channel h r = r ≡ record { «channel_id» = channel; «control_endpoint» = h }
+
+abbrev pub DisconnectNewPromise : ℕ → Hpai → DisconnectRequest → Type 0
+DisconnectNewPromise channel h r = r ≡ record { «channel_id» = channel; «control_endpoint» = h }
+
+abbrev pub StateBuildPromise : ConnectionStateRequest → List ℕ → Written → List ℕ → Type 0
+StateBuildPromise q b r after = RequestPromise S.ConnectionstateRequest (q .«channel_id») (q .«control_endpoint») b r after
+
+abbrev pub DisconnectBuildPromise : DisconnectRequest → List ℕ → Written → List ℕ → Type 0
+DisconnectBuildPromise q b r after = RequestPromise S.DisconnectRequest (q .«channel_id») (q .«control_endpoint») b r after
+
+-- ---- responses: channel, status
+
+abbrev pub statusFields : List Field
+statusFields = byte ∷ byte ∷ []
+
+-- fewer than 2 (1)
+abbrev pub statusChecks : ℕ → List Check
+statusChecks n = ltb n (size statusFields) ⇒ BufferTooSmall ∷ []
+
+abbrev pub statusBy01 : List ℕ → Told
+statusBy01 s = judged (statusChecks (length s)) (done (get statusFields 0 s))
+
+-- the two values
+abbrev pub status : ℕ → ℕ → Told
+status channel code = done (channel ∷ code ∷ [])
+
+abbrev pub toldStatus : StatusAnswer → Told
+toldStatus (A.Status s) = status (s .«channel_id») (s .status)
+toldStatus (A.Refused e) = refused 2 e
+
+abbrev pub toldState : ConnectionStateAnswer → Told
+toldState (C.Response s) = status (s .«channel_id») (s .status)
+toldState (C.Refused e) = refused 2 e
+
+abbrev pub toldDisconnect : DisconnectAnswer → Told
+toldDisconnect (D.Response s) = status (s .«channel_id») (s .status)
+toldDisconnect (D.Refused e) = refused 2 e
+
+abbrev pub StatusPromise : List ℕ → StatusAnswer → Type 0
+StatusPromise s r = toldStatus r ≡ statusBy01 s
+
+abbrev pub StateParsePromise : List ℕ → ConnectionStateAnswer → Type 0
+StateParsePromise s r = toldState r ≡ statusBy01 s
+
+abbrev pub DisconnectParsePromise : List ℕ → DisconnectAnswer → Type 0
+DisconnectParsePromise s r = toldDisconnect r ≡ statusBy01 s
+
+-- status 0
+abbrev pub StateIsOkPromise : ConnectionStateResponse → Bool → Type 0
+StateIsOkPromise c r = r ≡ eqb (c .status) 0
+
+abbrev pub DisconnectIsOkPromise : DisconnectResponse → Bool → Type 0
+DisconnectIsOkPromise c r = r ≡ eqb (c .status) 0

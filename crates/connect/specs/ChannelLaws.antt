@@ -1,0 +1,80 @@
+-- Connection state and disconnect: requests come back from their frames, responses have their layout, and no second answer. Assumes nothing.
+use Prim.Native.Nat.{ℕ, _+_, _≤_}
+use native.Mathlib.Omega.{arith}
+use mathlib.Core.Path.{_≡_, refl, sym, ap, _∙_}
+use mathlib.Core.List.{List, [], _∷_, _++_, append-nil}
+use lib.ListN.{length, getD, take, drop}
+use lib.Dec.{ltb}
+use borrow.Author.Tests.{ltb-false}
+use Rattle.wire.specs.Told.{Told, done}
+use Rattle.wire.specs.ToldLaws.{one-to-one, answerOf, back-refused, holds, was-accepted, let-through, same}
+use Rattle.wire.specs.Layout.{put, get}
+use Rattle.wire.specs.LayoutLaws.{Bytes, put-get}
+use Rattle.wire.specs.WrittenLaws.{writes-one}
+use Rattle.wire.specs.declared.refusals.Refusal.the-variants.{BufferTooSmall}
+use Rattle.wire.specs.declared.refusals.Written.{Written}
+use Rattle.wire.specs.declared.refusals.Written.the-variants as W
+use Rattle.constants.specs.declared.ServiceType.{ServiceType}
+use Rattle.frame.specs.Builder.{frame}
+use Rattle.frame.specs.RoundTrip.{Back, frame-back}
+use Rattle.hpai.specs.Hpai as Hpai
+use Rattle.hpai.specs.HpaiLaws as HpaiLaws
+use Rattle.hpai.specs.declared.Hpai.{Hpai}
+use Rattle.hpai.specs.declared.HpaiAnswer.{HpaiAnswer}
+use Rattle.connect.specs.Channel.{requestLayout, requestChecks, RequestPromise, statusFields, statusChecks, statusBy01, status, toldState, StateParsePromise, toldDisconnect, DisconnectParsePromise}
+use Rattle.connect.specs.declared.channel.ConnectionStateResponse.{ConnectionStateResponse}
+use Rattle.connect.specs.declared.channel.ConnectionStateAnswer.{ConnectionStateAnswer}
+use Rattle.connect.specs.declared.channel.ConnectionStateAnswer.the-variants as C
+use Rattle.connect.specs.declared.channel.DisconnectResponse.{DisconnectResponse}
+use Rattle.connect.specs.declared.channel.DisconnectAnswer.{DisconnectAnswer}
+use Rattle.connect.specs.declared.channel.DisconnectAnswer.the-variants as D
+
+-- ---- requests, for any service
+
+pub request-one : (s : ServiceType) (channel : ℕ) (h : Hpai) (b : List ℕ) (r q : Written) (after later : List ℕ)
+    → RequestPromise s channel h b r after → RequestPromise s channel h b q later → (r ≡ q) × (after ≡ later)
+request-one s channel h b = writes-one (requestChecks (length b)) (frame s (requestLayout channel h)) b
+
+pub request-back : (s : ServiceType) (channel : ℕ) (h : Hpai) (b : List ℕ) (n : ℕ) (after : List ℕ)
+    → RequestPromise s channel h b (W.Bytes n) after → (n ≡ 6 + length (requestLayout channel h)) × Back s (requestLayout channel h) b after
+request-back s channel h b = frame-back (requestChecks (length b)) s (requestLayout channel h) b
+
+-- the endpoint stands at 2 of the body, which is 8 of the frame
+pub endpoint-back : (channel : ℕ) (h : Hpai) (r : HpaiAnswer) → HpaiLaws.Proper h → Hpai.ParsePromise (drop 2 (requestLayout channel h)) r → r ≡ HpaiLaws.accepted h
+endpoint-back channel h r p x = HpaiLaws.told-one r (HpaiLaws.accepted h) (x ∙ ap Hpai.parseBy01 (sym (append-nil (Hpai.layout h))) ∙ HpaiLaws.reads-back h [] p)
+
+-- ---- responses
+
+abbrev stateOf : List ℕ → ConnectionStateAnswer
+stateOf vs = C.Response (record { «channel_id» = getD vs 0 0; status = getD vs 1 0 })
+
+state-back : (r : ConnectionStateAnswer) → answerOf stateOf C.Refused (toldState r) ≡ r
+state-back (C.Response c) = refl
+state-back (C.Refused e) = back-refused stateOf C.Refused 2 e
+
+pub state-told-one : (r q : ConnectionStateAnswer) → toldState r ≡ toldState q → r ≡ q
+state-told-one = one-to-one toldState (answerOf stateOf C.Refused) state-back
+
+pub state-parse-one : (s : List ℕ) (r q : ConnectionStateAnswer) → StateParsePromise s r → StateParsePromise s q → r ≡ q
+state-parse-one s r q a b = state-told-one r q (same a b)
+
+abbrev disconnectOf : List ℕ → DisconnectAnswer
+disconnectOf vs = D.Response (record { «channel_id» = getD vs 0 0; status = getD vs 1 0 })
+
+disconnect-back : (r : DisconnectAnswer) → answerOf disconnectOf D.Refused (toldDisconnect r) ≡ r
+disconnect-back (D.Response c) = refl
+disconnect-back (D.Refused e) = back-refused disconnectOf D.Refused 2 e
+
+pub disconnect-told-one : (r q : DisconnectAnswer) → toldDisconnect r ≡ toldDisconnect q → r ≡ q
+disconnect-told-one = one-to-one toldDisconnect (answerOf disconnectOf D.Refused) disconnect-back
+
+pub disconnect-parse-one : (s : List ℕ) (r q : DisconnectAnswer) → DisconnectParsePromise s r → DisconnectParsePromise s q → r ≡ q
+disconnect-parse-one s r q a b = disconnect-told-one r q (same a b)
+
+-- what is accepted starts with the two values that are told
+pub has-layout : (s : List ℕ) (channel code : ℕ) → Bytes s → status channel code ≡ statusBy01 s → take 2 s ≡ put statusFields (channel ∷ code ∷ [])
+has-layout s channel code b q =
+    let vs : List ℕ = get statusFields 0 s in
+    let read : status channel code ≡ done vs = let-through (statusChecks (length s)) (done vs) (status channel code) refl q in
+    let enough : 2 ≤ length s = ltb-false (length s) 2 (holds [] (ltb (length s) 2) BufferTooSmall [] (was-accepted (statusChecks (length s)) (done vs) (status channel code) refl q)) in
+    sym (put-get statusFields 0 s b (omega arith)) ∙ ap (λ (t : Told). put statusFields (t .values)) (sym read)

@@ -1,0 +1,61 @@
+-- A connect request comes back from its frame: its two endpoints and its request information. Assumes nothing.
+use Prim.Native.Nat.{ℕ, _+_}
+use native.Mathlib.Omega.{arith}
+use mathlib.Core.Path.{_≡_, refl, sym, ap, _∙_}
+use mathlib.Core.List.{List, [], _∷_, _++_, append-assoc, append-nil}
+use lib.ListN.{length, drop, length-append}
+use lib.Seq.{drop-at}
+use Rattle.wire.specs.WrittenLaws.{writes-one}
+use Rattle.wire.specs.declared.refusals.Written.{Written}
+use Rattle.wire.specs.declared.refusals.Written.the-variants as W
+use Rattle.constants.specs.declared.ServiceType.the-variants as S
+use Rattle.frame.specs.Builder.{frame}
+use Rattle.frame.specs.RoundTrip.{Back, frame-back}
+use Rattle.hpai.specs.Hpai as Hpai
+use Rattle.hpai.specs.HpaiLaws as HpaiLaws
+use Rattle.hpai.specs.declared.Hpai.{Hpai}
+use Rattle.hpai.specs.declared.HpaiAnswer.{HpaiAnswer}
+use Rattle.connect.specs.Cri as Cri
+use Rattle.connect.specs.CriLaws as CriLaws
+use Rattle.connect.specs.Request.{layout, buildChecks, BuildPromise}
+use Rattle.connect.specs.declared.request.ConnectRequest.{ConnectRequest}
+use Rattle.connect.specs.declared.cri.ConnectionRequestInfoAnswer.{ConnectionRequestInfoAnswer}
+use Rattle.connect.specs.declared.cri.ConnectionRequestInfoAnswer.the-variants.{Info}
+
+pub build-one : (q : ConnectRequest) (b : List ℕ) (r s : Written) (after later : List ℕ)
+    → BuildPromise q b r after → BuildPromise q b s later → (r ≡ s) × (after ≡ later)
+build-one q b = writes-one (buildChecks (length b)) (frame S.ConnectRequest (layout q)) b
+
+-- both endpoints have the proper length byte
+pub record Proper (q : ConnectRequest) : Type 0 where
+  pub control : HpaiLaws.Proper (q .«control_endpoint»)
+  pub other : HpaiLaws.Proper (q .«data_endpoint»)
+
+pub build-back : (q : ConnectRequest) (b : List ℕ) (n : ℕ) (after : List ℕ)
+    → BuildPromise q b (W.Bytes n) after → (n ≡ 6 + length (layout q)) × Back S.ConnectRequest (layout q) b after
+build-back q b = frame-back (buildChecks (length b)) S.ConnectRequest (layout q) b
+
+-- the parts of the body: at 0, 8 and 16, which are 6, 14 and 22 of the frame
+pub control-back : (q : ConnectRequest) (r : HpaiAnswer) → Proper q → Hpai.ParsePromise (layout q) r → r ≡ HpaiLaws.accepted (q .«control_endpoint»)
+control-back q r p x =
+    let c : List ℕ = Hpai.layout (q .«control_endpoint») in
+    let d : List ℕ = Hpai.layout (q .«data_endpoint») in
+    let i : List ℕ = Cri.layout (q .cri) in
+    HpaiLaws.told-one r (HpaiLaws.accepted (q .«control_endpoint»)) (x ∙ ap Hpai.parseBy01 (append-assoc c d i) ∙ HpaiLaws.reads-back (q .«control_endpoint») (d ++ i) (p .control))
+
+pub data-back : (q : ConnectRequest) (r : HpaiAnswer) → Proper q → Hpai.ParsePromise (drop 8 (layout q)) r → r ≡ HpaiLaws.accepted (q .«data_endpoint»)
+data-back q r p x =
+    let c : List ℕ = Hpai.layout (q .«control_endpoint») in
+    let d : List ℕ = Hpai.layout (q .«data_endpoint») in
+    let i : List ℕ = Cri.layout (q .cri) in
+    let behind : drop 8 (layout q) ≡ d ++ i = ap (drop 8) (append-assoc c d i) ∙ drop-at c (d ++ i) 8 (HpaiLaws.length-layout (q .«control_endpoint») (p .control .address-4)) in
+    HpaiLaws.told-one r (HpaiLaws.accepted (q .«data_endpoint»)) (x ∙ ap Hpai.parseBy01 behind ∙ HpaiLaws.reads-back (q .«data_endpoint») i (p .other))
+
+pub cri-back : (q : ConnectRequest) (r : ConnectionRequestInfoAnswer) → Proper q → Cri.DecodePromise (drop 16 (layout q)) r → r ≡ Info (q .cri)
+cri-back q r p x =
+    let c : List ℕ = Hpai.layout (q .«control_endpoint») in
+    let d : List ℕ = Hpai.layout (q .«data_endpoint») in
+    let i : List ℕ = Cri.layout (q .cri) in
+    let sixteen : length (c ++ d) ≡ 16 =
+    length-append c d ∙ omega (arith, HpaiLaws.length-layout (q .«control_endpoint») (p .control .address-4), HpaiLaws.length-layout (q .«data_endpoint») (p .other .address-4)) in
+    CriLaws.told-one r (Info (q .cri)) (x ∙ ap Cri.decodeBy01 (drop-at (c ++ d) i 16 sixteen) ∙ CriLaws.reads-back (q .cri) [])

@@ -1,0 +1,48 @@
+-- "A connect response body needs 14 bytes (1) whatever its status, then the `Hpai` checks." Assumes nothing.
+use Prim.Native.Nat.{ℕ}
+use mathlib.Core.Path.{_≡_}
+use mathlib.Core.Bool.{Bool}
+use mathlib.Core.List.{List, [], _∷_, _++_}
+use lib.ListN.{length, drop, replicate}
+use lib.Dec.{ltb, eqb}
+use Rattle.wire.specs.Told.{Told, done, Check, _⇒_, judged}
+use Rattle.wire.specs.Layout.{Field, byte, run, size, put, get}
+use Rattle.wire.specs.declared.refusals.Refusal.the-variants.{BufferTooSmall}
+use Rattle.hpai.specs.Hpai as Hpai
+use Rattle.connect.specs.declared.response.ConnectResponse.{ConnectResponse}
+use Rattle.connect.specs.declared.response.ConnectResponseAnswer.{ConnectResponseAnswer}
+
+-- channel, status, data endpoint, connection response data (4)
+abbrev pub fields : List Field
+fields = byte ∷ byte ∷ (Hpai.fields ++ run 4 ∷ [])
+
+abbrev pub values : ConnectResponse → List ℕ
+values c = c .«channel_id» ∷ c .status ∷ (Hpai.values (c .«data_endpoint») ++ c .crd)
+
+abbrev pub layout : ConnectResponse → List ℕ
+layout c = put fields (values c)
+
+-- of a body of n bytes with these values: fewer than 14 (1), then the checks of the Hpai, which stands behind the first two
+abbrev pub checks : ℕ → List ℕ → List Check
+checks n vs = ltb n (size fields) ⇒ BufferTooSmall ∷ Hpai.checks (size Hpai.fields) (drop 2 vs)
+
+abbrev pub told : ConnectResponseAnswer → Told
+told r = record { number = r .number; values = values (r .response); start = 0; end = 0 }
+
+abbrev pub parseBy01 : List ℕ → Told
+parseBy01 s = judged (checks (length s) (get fields 0 s)) (done (get fields 0 s))
+
+-- the two arrays have four bytes each, as the types say
+pub record Arrays (c : ConnectResponse) : Type 0 where
+  pub address-4 : length (c .«data_endpoint» .«ip_address») ≡ 4
+  pub crd-4 : length (c .crd) ≡ 4
+
+abbrev pub ParsePromise : List ℕ → ConnectResponseAnswer → Type 0
+ParsePromise s r = (told r ≡ parseBy01 s) × Arrays (r .response)
+
+-- thirteen zeros beside the number
+abbrev pub RefusedPromise : ℕ → ConnectResponseAnswer → Type 0
+RefusedPromise n r = (told r ≡ record { number = n; values = replicate 13 0; start = 0; end = 0 }) × Arrays (r .response)
+
+abbrev pub IsOkPromise : ConnectResponse → Bool → Type 0
+IsOkPromise c r = r ≡ eqb (c .status) 0

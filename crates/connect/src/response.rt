@@ -1,0 +1,67 @@
+// The answer to a connect request. It holds arrays, so a struct has the number beside it.
+ghost use Rattle.connect.specs.Response.{ParsePromise, IsOkPromise, RefusedPromise};
+use hpai::Hpai;
+use wire::Refusal;
+
+pub struct ConnectResponse {
+    pub channel_id: u8,
+    pub status: u8,
+    pub data_endpoint: Hpai,
+    pub crd: [u8; 4],
+}
+
+pub struct ConnectResponseAnswer {
+    pub number: u8,
+    pub response: ConnectResponse,
+}
+
+impl ConnectResponse {
+    // Fourteen bytes are needed whatever the status.
+    pub fn parse(data: &[u8]) -> ConnectResponseAnswer
+        ensures { λ r. ⌜ ParsePromise (now («data» .entry)) r ⌝ }
+    {
+        if data.len() < 14 {
+            return refused(Refusal::BufferTooSmall.number());
+        }
+        let answer = Hpai::parse(&data[2..10]);
+        if answer.number != 0 {
+            return refused(answer.number);
+        }
+        let data_endpoint = answer.hpai;
+        let crd = [data[10], data[11], data[12], data[13]];
+        let response = ConnectResponse {
+            channel_id: data[0],
+            status: data[1],
+            data_endpoint,
+            crd,
+        };
+        ConnectResponseAnswer {
+            number: 0,
+            response,
+        }
+    }
+
+    pub fn is_ok(self) -> bool
+        ensures { λ r. ⌜ IsOkPromise self r ⌝ }
+    {
+        self.status == 0
+    }
+}
+
+fn refused(number: u8) -> ConnectResponseAnswer
+    ensures { λ r. ⌜ RefusedPromise number r ⌝ }
+{
+    let data_endpoint = Hpai {
+        structure_length: 0,
+        host_protocol: 0,
+        ip_address: [0, 0, 0, 0],
+        port: 0,
+    };
+    let response = ConnectResponse {
+        channel_id: 0,
+        status: 0,
+        data_endpoint,
+        crd: [0, 0, 0, 0],
+    };
+    ConnectResponseAnswer { number, response }
+}
