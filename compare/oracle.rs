@@ -7,6 +7,7 @@
 pub mod addressing;
 pub mod calls;
 pub mod error;
+mod services_calls;
 
 pub mod protocol {
     pub mod cemi;

@@ -29,6 +29,26 @@ use Rattle.frame.specs.declared.builder.FrameBuilder.{FrameBuilder}
 use Rattle.hpai.specs.Hpai as Hpai
 use Rattle.hpai.specs.declared.Hpai.{Hpai}
 use Rattle.hpai.specs.declared.HpaiAnswer.{HpaiAnswer}
+use Rattle.constants.specs.declared.ServiceType.the-variants as S
+use Rattle.connect.specs.Cri as Cri
+use Rattle.connect.specs.Request as ConnectReq
+use Rattle.connect.specs.Response as ConnectRes
+use Rattle.connect.specs.Channel as Channel
+use Rattle.connect.specs.declared.cri.ConnectionRequestInfo.{ConnectionRequestInfo}
+use Rattle.connect.specs.declared.cri.ConnectionRequestInfoAnswer.{ConnectionRequestInfoAnswer}
+use Rattle.connect.specs.declared.request.ConnectRequest.{ConnectRequest}
+use Rattle.connect.specs.declared.response.ConnectResponseAnswer.{ConnectResponseAnswer}
+use Rattle.connect.specs.declared.channel.ConnectionStateAnswer.{ConnectionStateAnswer}
+use Rattle.connect.specs.declared.channel.DisconnectAnswer.{DisconnectAnswer}
+use Rattle.tunnelling.specs.Connection as Connection
+use Rattle.tunnelling.specs.Request as TunnelReq
+use Rattle.tunnelling.specs.Ack as Ack
+use Rattle.tunnelling.specs.declared.connection.ConnectionHeader.{ConnectionHeader}
+use Rattle.tunnelling.specs.declared.connection.ConnectionHeaderAnswer.{ConnectionHeaderAnswer}
+use Rattle.tunnelling.specs.declared.request.TunnelingRequest.{TunnelingRequest}
+use Rattle.tunnelling.specs.declared.request.TunnelingRequestAnswer.{TunnelingRequestAnswer}
+use Rattle.tunnelling.specs.declared.ack.TunnelingAck.{TunnelingAck}
+use Rattle.tunnelling.specs.declared.ack.TunnelingAckAnswer.{TunnelingAckAnswer}
 
 -- ---- wire
 
@@ -78,6 +98,9 @@ frame-data-part f s r e v q = q ∙ shown-refused (Frame.recordChecks f (length 
 pub frame-build : (f : FrameBuilder) (body b : List ℕ) (r : Written) (after : List ℕ) → Builder.BuildPromise f body b r after → Refusing (Written.told r) × Leaves (Written.told r) b after
 frame-build f body b = writes-refusing (Builder.checks (length body) (length b)) (Builder.frame (f .«service_type») body) b
 
+pub frame-write : (s : ServiceType) (body b : List ℕ) (r : Written) (after : List ℕ) → Builder.WriteFramePromise s body b r after → Refusing (Written.told r) × Leaves (Written.told r) b after
+frame-write s body b = writes-refusing (Builder.frameChecks (length body) (length b)) (Builder.frame s body) b
+
 -- ---- hpai
 
 pub hpai-parse : (s : List ℕ) (r : HpaiAnswer) → Hpai.ParsePromise s r → Refusing (Hpai.told r)
@@ -85,3 +108,51 @@ hpai-parse s r = judged-refusing (Hpai.checks (length s) (get Hpai.fields 0 s)) 
 
 pub hpai-encode : (h : Hpai) (b : List ℕ) (r : Written) (after : List ℕ) → Hpai.EncodePromise h b r after → Refusing (Written.told r) × Leaves (Written.told r) b after
 hpai-encode h b = writes-refusing (Hpai.encodeChecks (length b)) (Hpai.layout h) b
+
+-- ---- connect
+
+pub cri-encode : (c : ConnectionRequestInfo) (b : List ℕ) (r : Written) (after : List ℕ) → Cri.EncodePromise c b r after → Refusing (Written.told r) × Leaves (Written.told r) b after
+cri-encode c b = writes-refusing (Cri.encodeChecks (length b)) (Cri.layout c) b
+
+pub cri-decode : (s : List ℕ) (r : ConnectionRequestInfoAnswer) → Cri.DecodePromise s r → Refusing (Cri.told r)
+cri-decode s r = judged-refusing (Cri.checks (length s) (get Cri.fields 0 s)) (done (Cri.held (get Cri.fields 0 s))) (Cri.told r) refl
+
+pub connect-request-build : (q : ConnectRequest) (b : List ℕ) (r : Written) (after : List ℕ) → ConnectReq.BuildPromise q b r after → Refusing (Written.told r) × Leaves (Written.told r) b after
+connect-request-build q b = writes-refusing (ConnectReq.buildChecks (length b)) (Builder.frame S.ConnectRequest (ConnectReq.layout q)) b
+
+pub connect-response-parse : (s : List ℕ) (r : ConnectResponseAnswer) → ConnectRes.ParsePromise s r → Refusing (ConnectRes.told r)
+connect-response-parse s r p = judged-refusing (ConnectRes.checks (length s) (get ConnectRes.fields 0 s)) (done (get ConnectRes.fields 0 s)) (ConnectRes.told r) refl (p .0)
+
+-- connection state and disconnect, for either service
+pub channel-request : (s : ServiceType) (channel : ℕ) (h : Hpai) (b : List ℕ) (r : Written) (after : List ℕ)
+    → Channel.RequestPromise s channel h b r after → Refusing (Written.told r) × Leaves (Written.told r) b after
+channel-request s channel h b = writes-refusing (Channel.requestChecks (length b)) (Builder.frame s (Channel.requestLayout channel h)) b
+
+pub state-response-parse : (s : List ℕ) (r : ConnectionStateAnswer) → Channel.StateParsePromise s r → Refusing (Channel.toldState r)
+state-response-parse s r = judged-refusing (Channel.statusChecks (length s)) (done (get Channel.statusFields 0 s)) (Channel.toldState r) refl
+
+pub disconnect-response-parse : (s : List ℕ) (r : DisconnectAnswer) → Channel.DisconnectParsePromise s r → Refusing (Channel.toldDisconnect r)
+disconnect-response-parse s r = judged-refusing (Channel.statusChecks (length s)) (done (get Channel.statusFields 0 s)) (Channel.toldDisconnect r) refl
+
+-- ---- tunnelling
+
+pub connection-header-encode : (h : ConnectionHeader) (b : List ℕ) (r : Written) (after : List ℕ) → Connection.EncodePromise h b r after → Refusing (Written.told r) × Leaves (Written.told r) b after
+connection-header-encode h b = writes-refusing (Connection.encodeChecks (length b)) (Connection.layout h) b
+
+pub connection-header-decode : (s : List ℕ) (r : ConnectionHeaderAnswer) → Connection.DecodePromise s r → Refusing (Connection.told r)
+connection-header-decode s r = judged-refusing (Connection.checks (length s)) (done (Connection.held (get Connection.fields 0 s))) (Connection.told r) refl
+
+pub tunnel-request-build : (t : TunnelingRequest) (cemi b : List ℕ) (r : Written) (after : List ℕ) → TunnelReq.BuildPromise t cemi b r after → Refusing (Written.told r) × Leaves (Written.told r) b after
+tunnel-request-build t cemi b = writes-refusing (TunnelReq.buildChecks (length cemi) (length b)) (Builder.frame S.TunnellingRequest (TunnelReq.body (t .«connection_header») cemi)) b
+
+pub tunnel-request-parse : (s : List ℕ) (r : TunnelingRequestAnswer) → TunnelReq.ParsePromise s r → Refusing (TunnelReq.told r)
+tunnel-request-parse s r = judged-refusing (Connection.checks (length s)) (done (Connection.held (get Connection.fields 0 s))) (TunnelReq.told r) refl
+
+pub tunnel-request-cemi : (s : List ℕ) (r : View) → TunnelReq.CemiDataPromise s r → Refusing (Parts.told r)
+tunnel-request-cemi s r = judged-refusing (Connection.checks (length s)) (viewed 4 (length s)) (Parts.told r) refl
+
+pub ack-build : (a : TunnelingAck) (b : List ℕ) (r : Written) (after : List ℕ) → Ack.BuildPromise a b r after → Refusing (Written.told r) × Leaves (Written.told r) b after
+ack-build a b = writes-refusing (Ack.buildChecks (length b)) (Builder.frame S.TunnellingAck (Ack.layout a)) b
+
+pub ack-parse : (s : List ℕ) (r : TunnelingAckAnswer) → Ack.ParsePromise s r → Refusing (Ack.told r)
+ack-parse s r = judged-refusing (Ack.checks (length s)) (done (Ack.held (get Ack.fields 0 s))) (Ack.told r) refl

@@ -2,7 +2,7 @@
 use Prim.Native.Nat.{ℕ, _+_, _≤_}
 use mathlib.Core.Path.{_≡_}
 use mathlib.Core.List.{List, [], _∷_, _++_}
-use lib.ListN.{length, take}
+use lib.ListN.{length, take, drop, getD}
 use Rattle.wire.specs.Told.{Told, done}
 use Rattle.wire.specs.LayoutLaws.{Bytes}
 use Rattle.wire.specs.Written.{tells, leaves}
@@ -29,6 +29,36 @@ use Rattle.hpai.specs.Hpai as Hpai
 use Rattle.hpai.specs.HpaiLaws as HpaiLaws
 use Rattle.hpai.specs.declared.Hpai.{Hpai}
 use Rattle.hpai.specs.declared.HpaiAnswer.{HpaiAnswer}
+use Rattle.wire.specs.Layout.{put}
+use Rattle.constants.specs.declared.ServiceType.the-variants as Code
+use Rattle.connect.specs.Cri as Cri
+use Rattle.connect.specs.CriLaws as CriLaws
+use Rattle.connect.specs.Request as ConnectReq
+use Rattle.connect.specs.RequestLaws as ConnectRequestLaws
+use Rattle.connect.specs.Response as ConnectRes
+use Rattle.connect.specs.ResponseLaws as ConnectResponseLaws
+use Rattle.connect.specs.Channel as Channel
+use Rattle.connect.specs.ChannelLaws as ChannelLaws
+use Rattle.connect.specs.declared.cri.ConnectionRequestInfo.{ConnectionRequestInfo}
+use Rattle.connect.specs.declared.cri.ConnectionRequestInfoAnswer.{ConnectionRequestInfoAnswer}
+use Rattle.connect.specs.declared.cri.ConnectionRequestInfoAnswer.the-variants as I
+use Rattle.connect.specs.declared.request.ConnectRequest.{ConnectRequest}
+use Rattle.connect.specs.declared.response.ConnectResponse.{ConnectResponse}
+use Rattle.tunnelling.specs.Connection as Connection
+use Rattle.tunnelling.specs.ConnectionLaws as ConnectionLaws
+use Rattle.tunnelling.specs.Request as TunnelReq
+use Rattle.tunnelling.specs.RequestLaws as TunnelRequestLaws
+use Rattle.tunnelling.specs.Ack as Ack
+use Rattle.tunnelling.specs.AckLaws as AckLaws
+use Rattle.tunnelling.specs.declared.connection.ConnectionHeader.{ConnectionHeader}
+use Rattle.tunnelling.specs.declared.connection.ConnectionHeaderAnswer.{ConnectionHeaderAnswer}
+use Rattle.tunnelling.specs.declared.connection.ConnectionHeaderAnswer.the-variants as C
+use Rattle.tunnelling.specs.declared.request.TunnelingRequest.{TunnelingRequest}
+use Rattle.tunnelling.specs.declared.request.TunnelingRequestAnswer.{TunnelingRequestAnswer}
+use Rattle.tunnelling.specs.declared.request.TunnelingRequestAnswer.the-variants as R
+use Rattle.tunnelling.specs.declared.ack.TunnelingAck.{TunnelingAck}
+use Rattle.tunnelling.specs.declared.ack.TunnelingAckAnswer.{TunnelingAckAnswer}
+use Rattle.tunnelling.specs.declared.ack.TunnelingAckAnswer.the-variants as A
 
 -- ---- parsers
 
@@ -104,3 +134,72 @@ frame-build-back = RoundTrip.build-back
 pub frame-has-layout : (s : List ℕ) (f : FrameFields) (body all : List ℕ) → Bytes s → Frame.ParsePromise s (F.Frame f)
     → Frame.BodyPartPromise f s body → Frame.DataPartPromise f s all → all ≡ Header.layout (f .header) ++ body
 frame-has-layout = RoundTrip.has-layout
+
+-- ---- services.rs: parsers
+
+pub cri-encode-decode : (c : ConnectionRequestInfo) (b : List ℕ) (n : ℕ) (after : List ℕ) (r : ConnectionRequestInfoAnswer)
+    → Cri.EncodePromise c b (W.Bytes n) after → Cri.DecodePromise after r → r ≡ I.Info c
+cri-encode-decode = CriLaws.encode-decode
+
+-- but for the reserved byte, which is not looked at
+pub cri-has-layout : (s : List ℕ) (c : ConnectionRequestInfo) → Bytes s → Cri.DecodePromise s (I.Info c)
+    → take 4 s ≡ put Cri.fields (4 ∷ c .«connection_type» ∷ c .«knx_layer» ∷ getD s 3 0 ∷ [])
+cri-has-layout = CriLaws.has-layout
+
+pub connection-header-encode-decode : (h : ConnectionHeader) (b : List ℕ) (n : ℕ) (after : List ℕ) (r : ConnectionHeaderAnswer)
+    → Connection.EncodePromise h b (W.Bytes n) after → Connection.DecodePromise after r → r ≡ C.Header h
+connection-header-encode-decode = ConnectionLaws.encode-decode
+
+-- but for the length byte and the reserved byte, which are not looked at
+pub connection-header-has-layout : (s : List ℕ) (h : ConnectionHeader) → Bytes s → Connection.DecodePromise s (C.Header h)
+    → take 4 s ≡ put Connection.fields (getD s 0 0 ∷ h .«channel_id» ∷ h .«sequence_counter» ∷ getD s 3 0 ∷ [])
+connection-header-has-layout = ConnectionLaws.has-layout
+
+pub connect-response-reads-back : (c : ConnectResponse) (rest : List ℕ) → ConnectRes.Arrays c → c .«data_endpoint» .«structure_length» ≡ 8
+    → ConnectRes.parseBy01 (ConnectRes.layout c ++ rest) ≡ ConnectRes.told (ConnectResponseLaws.accepted c)
+connect-response-reads-back = ConnectResponseLaws.reads-back
+
+pub connect-response-has-layout : (s : List ℕ) (c : ConnectResponse) → Bytes s → ConnectRes.ParsePromise s (ConnectResponseLaws.accepted c) → take 14 s ≡ ConnectRes.layout c
+connect-response-has-layout = ConnectResponseLaws.has-layout
+
+-- connection state and disconnect responses
+pub status-has-layout : (s : List ℕ) (channel code : ℕ) → Bytes s → Channel.status channel code ≡ Channel.statusBy01 s → take 2 s ≡ put Channel.statusFields (channel ∷ code ∷ [])
+status-has-layout = ChannelLaws.has-layout
+
+-- but for the two bytes of the connection header that are not looked at
+pub ack-has-layout : (s : List ℕ) (a : TunnelingAck) → Bytes s → Ack.ParsePromise s (A.Ack a)
+    → take 5 s ≡ put Ack.fields (getD s 0 0 ∷ a .«connection_header» .«channel_id» ∷ a .«connection_header» .«sequence_counter» ∷ getD s 3 0 ∷ a .status ∷ [])
+ack-has-layout = AckLaws.has-layout
+
+-- ---- services.rs: builders, through the frame's parse and the body's
+
+pub ack-round-trip : (a : TunnelingAck) (b : List ℕ) (n : ℕ) (after : List ℕ) (f : FrameFields) (body : List ℕ) (r : TunnelingAckAnswer)
+    → Ack.BuildPromise a b (W.Bytes n) after → Frame.ParsePromise after (F.Frame f) → Frame.BodyPartPromise f after body → Ack.ParsePromise body r → r ≡ A.Ack a
+ack-round-trip = AckLaws.round-trip
+
+pub tunnel-request-round-trip : (t : TunnelingRequest) (cemi b : List ℕ) (n : ℕ) (after : List ℕ) (f : FrameFields) (part : List ℕ) (r : TunnelingRequestAnswer) (c : List ℕ)
+    → TunnelReq.BuildPromise t cemi b (W.Bytes n) after → Frame.ParsePromise after (F.Frame f) → Frame.BodyPartPromise f after part
+    → TunnelReq.ParsePromise part r → TunnelReq.CemiPartPromise part c → (r ≡ R.Request t) × (c ≡ cemi)
+tunnel-request-round-trip = TunnelRequestLaws.round-trip
+
+pub connect-request-back : (q : ConnectRequest) (b : List ℕ) (n : ℕ) (after : List ℕ)
+    → ConnectReq.BuildPromise q b (W.Bytes n) after → (n ≡ 6 + length (ConnectReq.layout q)) × Back Code.ConnectRequest (ConnectReq.layout q) b after
+connect-request-back = ConnectRequestLaws.build-back
+
+-- the parts of its body at 0, 8 and 16: 6, 14 and 22 of the frame
+pub connect-request-control : (q : ConnectRequest) (r : HpaiAnswer) → ConnectRequestLaws.Proper q → Hpai.ParsePromise (ConnectReq.layout q) r → r ≡ HpaiLaws.accepted (q .«control_endpoint»)
+connect-request-control = ConnectRequestLaws.control-back
+
+pub connect-request-data : (q : ConnectRequest) (r : HpaiAnswer) → ConnectRequestLaws.Proper q → Hpai.ParsePromise (drop 8 (ConnectReq.layout q)) r → r ≡ HpaiLaws.accepted (q .«data_endpoint»)
+connect-request-data = ConnectRequestLaws.data-back
+
+pub connect-request-cri : (q : ConnectRequest) (r : ConnectionRequestInfoAnswer) → ConnectRequestLaws.Proper q → Cri.DecodePromise (drop 16 (ConnectReq.layout q)) r → r ≡ I.Info (q .cri)
+connect-request-cri = ConnectRequestLaws.cri-back
+
+-- connection state and disconnect, for either service; the endpoint stands at 2 of the body, 8 of the frame
+pub channel-request-back : (s : ServiceType) (channel : ℕ) (h : Hpai) (b : List ℕ) (n : ℕ) (after : List ℕ)
+    → Channel.RequestPromise s channel h b (W.Bytes n) after → (n ≡ 6 + length (Channel.requestLayout channel h)) × Back s (Channel.requestLayout channel h) b after
+channel-request-back = ChannelLaws.request-back
+
+pub channel-request-endpoint : (channel : ℕ) (h : Hpai) (r : HpaiAnswer) → HpaiLaws.Proper h → Hpai.ParsePromise (drop 2 (Channel.requestLayout channel h)) r → r ≡ HpaiLaws.accepted h
+channel-request-endpoint = ChannelLaws.endpoint-back

@@ -1,14 +1,20 @@
 -- 01's orders of checks and its "errors to expect", as rows: where two checks are broken, the earlier one decides.
-use Prim.Native.Nat.{ℕ, _+_}
+use Prim.Native.Nat.{ℕ}
 use mathlib.Core.Path.{_≡_, refl}
 use mathlib.Core.List.{List, [], _∷_}
-use lib.ListN.{length, replicate}
-use Rattle.wire.specs.Told.{verdict, viewed}
-use Rattle.wire.specs.Parts.{shown}
-use Rattle.wire.specs.Written.{tells}
+use lib.ListN.{replicate}
+use Rattle.wire.specs.Told.{done, viewed}
+use Rattle.wire.specs.Written.{tells, room}
 use Rattle.constants.specs.declared.ServiceType.the-variants.{TunnellingAck}
 use Rattle.header.specs.Header as Header
 use Rattle.hpai.specs.Hpai as Hpai
+use Rattle.connect.specs.Cri as Cri
+use Rattle.connect.specs.Request as ConnectReq
+use Rattle.connect.specs.Response as ConnectRes
+use Rattle.connect.specs.Channel as Channel
+use Rattle.tunnelling.specs.Connection as Connection
+use Rattle.tunnelling.specs.Request as TunnelReq
+use Rattle.tunnelling.specs.Ack as Ack
 use Rattle.frame.specs.Frame as Frame
 use Rattle.frame.specs.Builder as Builder
 use Rattle.frame.specs.RoundTrip.{built}
@@ -35,6 +41,29 @@ pub record Order : Type 0 where
   pub body-to-total : Frame.bodyBy01 (built TunnellingAck (replicate 5 0)) trailed ≡ viewed 6 11
   -- an Hpai: 1 before 2
   pub hpai-short-before-length : Hpai.parseBy01 (0x09 ∷ 0x01 ∷ []) .number ≡ 1
+  -- request information: 1 before 2; a connection header has no 2
+  pub cri-short-before-length : Cri.decodeBy01 (0x05 ∷ 0x04 ∷ 0x02 ∷ []) .number ≡ 1
+  pub cri-length : Cri.decodeBy01 (0x05 ∷ 0x04 ∷ 0x02 ∷ 0x00 ∷ []) .number ≡ 2
+  pub connection-length : Connection.decodeBy01 (0x05 ∷ 0x15 ∷ 0x07 ∷ 0x00 ∷ []) ≡ done (0x15 ∷ 0x07 ∷ [])
+  -- a connect response needs 14 bytes whatever its status, and then its endpoint's length byte
+  pub refused-connection : ConnectRes.parseBy01 (0x00 ∷ 0x24 ∷ []) .number ≡ 1
+  pub short-before-endpoint : ConnectRes.parseBy01 (replicate 13 0) .number ≡ 1
+  pub endpoint-length : ConnectRes.parseBy01 (replicate 14 0) .number ≡ 2
+  -- the sizes: 26, 16, 16, 11 bytes, and one less is 1
+  pub connect-26 : (m : ℕ) → ConnectReq.buildChecks m ≡ room 26 m ∷ []
+  pub request-15 : tells (Channel.requestChecks 15) [] .number ≡ 1
+  pub request-16 : tells (Channel.requestChecks 16) [] .number ≡ 0
+  pub ack-10 : tells (Ack.buildChecks 10) [] .number ≡ 1
+  pub ack-11 : tells (Ack.buildChecks 11) [] .number ≡ 0
+  -- a tunnelling request: the buffer's 1 before the cEMI's 5
+  pub room-before-large : tells (TunnelReq.buildChecks 65526 65535) [] .number ≡ 1
+  pub large-alone : tells (TunnelReq.buildChecks 65526 65536) [] .number ≡ 5
+  pub largest : tells (TunnelReq.buildChecks 65525 65535) [] .number ≡ 0
+  -- responses of 2, 4 and 5 bytes, and one less is 1
+  pub status-1 : Channel.statusBy01 (0x15 ∷ []) .number ≡ 1
+  pub request-body-3 : Connection.decodeBy01 (0x04 ∷ 0x15 ∷ 0x07 ∷ []) .number ≡ 1
+  pub ack-body-4 : Ack.parseBy01 (0x04 ∷ 0x15 ∷ 0x07 ∷ 0x00 ∷ []) .number ≡ 1
+  pub ack-body-5 : Ack.parseBy01 (0x04 ∷ 0x15 ∷ 0x07 ∷ 0x00 ∷ 0x2A ∷ []) ≡ done (0x15 ∷ 0x07 ∷ 0x2A ∷ [])
 
 pub orders : Order
 orders = record {
@@ -47,4 +76,22 @@ orders = record {
   both-fit = refl;
   body-to-total = refl;
   hpai-short-before-length = refl;
+  cri-short-before-length = refl;
+  cri-length = refl;
+  connection-length = refl;
+  refused-connection = refl;
+  short-before-endpoint = refl;
+  endpoint-length = refl;
+  connect-26 = λ m. refl;
+  request-15 = refl;
+  request-16 = refl;
+  ack-10 = refl;
+  ack-11 = refl;
+  room-before-large = refl;
+  large-alone = refl;
+  largest = refl;
+  status-1 = refl;
+  request-body-3 = refl;
+  ack-body-4 = refl;
+  ack-body-5 = refl;
 }

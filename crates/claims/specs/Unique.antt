@@ -1,27 +1,41 @@
 -- "What a contract has to settle": no second answer. One theorem for each public function, under its name, over the promise that its `ensures` cites: two answers, or two answers with their lent slices, that meet the promise on the same inputs are equal. A part that is handed out is settled by its bytes.
 use Prim.Native.Nat.{ℕ}
-use mathlib.Core.Path.{_≡_, ap}
-use mathlib.Core.List.{List, []}
-use lib.ListN.{length}
+use mathlib.Core.Path.{_≡_}
+use mathlib.Core.List.{List, _++_}
 use Rattle.wire.specs.Numbers.{NumberPromise}
 use Rattle.wire.specs.Layout.{WordPromise, HighPromise, LowPromise, ByteAtPromise, WordAtPromise, CopyPromise}
-use Rattle.wire.specs.Written.{WritePromise, room}
+use Rattle.wire.specs.Written.{WritePromise}
 use Rattle.wire.specs.Parts.{RefusedPromise, PartPromise}
 use Rattle.wire.specs.ToldLaws.{same}
 use Rattle.wire.specs.WrittenLaws.{write-one}
 use Rattle.wire.specs.PartLaws as PartLaws
 use Rattle.constants.specs.Services as Services
 use Rattle.constants.specs.ServiceLaws as ServiceLaws
-use Rattle.constants.specs.declared.ServiceType.{ServiceType}
 use Rattle.address.specs.Address.{GroupFromPromise, GroupToPromise, IndividualFromPromise, IndividualToPromise}
 use Rattle.header.specs.Header as Header
 use Rattle.header.specs.HeaderLaws as HeaderLaws
 use Rattle.frame.specs.Frame as Frame
 use Rattle.frame.specs.FrameLaws as FrameLaws
 use Rattle.frame.specs.Builder as Builder
-use Rattle.frame.specs.declared.builder.FrameBuilder.{FrameBuilder}
 use Rattle.hpai.specs.Hpai as Hpai
 use Rattle.hpai.specs.HpaiLaws as HpaiLaws
+use Rattle.frame.specs.BuilderLaws as BuilderLaws
+use Rattle.constants.specs.declared.ServiceType.the-variants as S
+use Rattle.connect.specs.Cri as Cri
+use Rattle.connect.specs.CriLaws as CriLaws
+use Rattle.connect.specs.Request as ConnectRequest
+use Rattle.connect.specs.RequestLaws as ConnectRequestLaws
+use Rattle.connect.specs.Response as ConnectResponse
+use Rattle.connect.specs.ResponseLaws as ConnectResponseLaws
+use Rattle.connect.specs.Channel as Channel
+use Rattle.connect.specs.ChannelLaws as ChannelLaws
+use Rattle.connect.specs.declared.cri.ConnectionRequestInfo.{ConnectionRequestInfo}
+use Rattle.tunnelling.specs.Connection as Connection
+use Rattle.tunnelling.specs.ConnectionLaws as ConnectionLaws
+use Rattle.tunnelling.specs.Request as TunnelRequest
+use Rattle.tunnelling.specs.RequestLaws as TunnelRequestLaws
+use Rattle.tunnelling.specs.Ack as Ack
+use Rattle.tunnelling.specs.AckLaws as AckLaws
 
 -- a promise over one, two or three inputs
 abbrev pub One : {A R : Type 0} → (A → R → Type 0) → Type 0
@@ -39,6 +53,12 @@ Lent {A} {R} P = (a : A) (b : List ℕ) (r q : R) (after later : List ℕ) → P
 
 abbrev pub Lent₂ : {A B R : Type 0} → (A → B → List ℕ → R → List ℕ → Type 0) → Type 0
 Lent₂ {A} {B} {R} P = (a : A) → Lent (P a)
+
+abbrev pub Lent₃ : {A B C R : Type 0} → (A → B → C → List ℕ → R → List ℕ → Type 0) → Type 0
+Lent₃ {A} {B} {C} {R} P = (a : A) → Lent₂ (P a)
+
+abbrev pub Lent₄ : {A B C D R : Type 0} → (A → B → C → D → List ℕ → R → List ℕ → Type 0) → Type 0
+Lent₄ {A} {B} {C} {D} {R} P = (a : A) → Lent₃ (P a)
 
 -- ---- wire
 
@@ -170,6 +190,18 @@ builder-build = FrameLaws.build-one
 pub builder-size : One Builder.SizePromise
 builder-size body r q = same
 
+-- frame::write_frame
+pub frame-write : Lent₂ Builder.WriteFramePromise
+frame-write = BuilderLaws.write-one
+
+-- frame::write_frame2
+pub frame-write2 : Lent₃ Builder.WriteFrame2Promise
+frame-write2 s a b = BuilderLaws.write-one s (a ++ b)
+
+-- frame::write_frame3
+pub frame-write3 : Lent₄ Builder.WriteFrame3Promise
+frame-write3 s a b c = BuilderLaws.write-one s (a ++ b ++ c)
+
 -- ---- hpai
 
 -- hpai::Hpai::new
@@ -183,3 +215,119 @@ hpai-parse = HpaiLaws.parse-one
 -- hpai::Hpai::encode
 pub hpai-encode : Lent Hpai.EncodePromise
 hpai-encode = HpaiLaws.encode-one
+
+-- hpai::Hpai::to_bytes
+pub hpai-to-bytes : One Hpai.ToBytesPromise
+hpai-to-bytes h r q a b = same (a .0) (b .0)
+
+-- ---- connect
+
+-- connect::ConnectionRequestInfo::tunnel_link_layer
+pub cri-tunnel : (r q : ConnectionRequestInfo) → Cri.TunnelLinkLayerPromise r → Cri.TunnelLinkLayerPromise q → r ≡ q
+cri-tunnel r q = same
+
+-- connect::ConnectionRequestInfo::encode
+pub cri-encode : Lent Cri.EncodePromise
+cri-encode = CriLaws.encode-one
+
+-- connect::ConnectionRequestInfo::decode
+pub cri-decode : One Cri.DecodePromise
+cri-decode = CriLaws.decode-one
+
+-- connect::ConnectRequest::new
+pub connect-request-new : One₂ ConnectRequest.NewPromise
+connect-request-new control other r q = same
+
+-- connect::ConnectRequest::build
+pub connect-request-build : Lent ConnectRequest.BuildPromise
+connect-request-build = ConnectRequestLaws.build-one
+
+-- connect::ConnectResponse::parse
+pub connect-response-parse : One ConnectResponse.ParsePromise
+connect-response-parse = ConnectResponseLaws.parse-one
+
+-- connect::ConnectResponse::is_ok
+pub connect-response-is-ok : One ConnectResponse.IsOkPromise
+connect-response-is-ok c r q = same
+
+-- connect::ConnectionStateRequest::new
+pub state-request-new : One₂ Channel.StateNewPromise
+state-request-new channel h r q = same
+
+-- connect::ConnectionStateRequest::build
+pub state-request-build : Lent Channel.StateBuildPromise
+state-request-build q = ChannelLaws.request-one S.ConnectionstateRequest (q .«channel_id») (q .«control_endpoint»)
+
+-- connect::ConnectionStateResponse::parse
+pub state-response-parse : One Channel.StateParsePromise
+state-response-parse = ChannelLaws.state-parse-one
+
+-- connect::ConnectionStateResponse::is_ok
+pub state-response-is-ok : One Channel.StateIsOkPromise
+state-response-is-ok c r q = same
+
+-- connect::DisconnectRequest::new
+pub disconnect-request-new : One₂ Channel.DisconnectNewPromise
+disconnect-request-new channel h r q = same
+
+-- connect::DisconnectRequest::build
+pub disconnect-request-build : Lent Channel.DisconnectBuildPromise
+disconnect-request-build q = ChannelLaws.request-one S.DisconnectRequest (q .«channel_id») (q .«control_endpoint»)
+
+-- connect::DisconnectResponse::parse
+pub disconnect-response-parse : One Channel.DisconnectParsePromise
+disconnect-response-parse = ChannelLaws.disconnect-parse-one
+
+-- connect::DisconnectResponse::is_ok
+pub disconnect-response-is-ok : One Channel.DisconnectIsOkPromise
+disconnect-response-is-ok c r q = same
+
+-- ---- tunnelling
+
+-- tunnelling::ConnectionHeader::new
+pub connection-header-new : One₂ Connection.NewPromise
+connection-header-new channel sequence r q = same
+
+-- tunnelling::ConnectionHeader::encode
+pub connection-header-encode : Lent Connection.EncodePromise
+connection-header-encode = ConnectionLaws.encode-one
+
+-- tunnelling::ConnectionHeader::decode
+pub connection-header-decode : One Connection.DecodePromise
+connection-header-decode = ConnectionLaws.decode-one
+
+-- tunnelling::TunnelingRequest::new
+pub tunnel-request-new : One TunnelRequest.NewPromise
+tunnel-request-new h r q = same
+
+-- tunnelling::TunnelingRequest::build
+pub tunnel-request-build : Lent₂ TunnelRequest.BuildPromise
+tunnel-request-build = TunnelRequestLaws.build-one
+
+-- tunnelling::TunnelingRequest::parse
+pub tunnel-request-parse : One TunnelRequest.ParsePromise
+tunnel-request-parse = TunnelRequestLaws.parse-one
+
+-- tunnelling::TunnelingRequest::cemi_data
+pub tunnel-request-cemi-data : One TunnelRequest.CemiDataPromise
+tunnel-request-cemi-data = TunnelRequestLaws.cemi-data-one
+
+-- tunnelling::TunnelingRequest::cemi_part
+pub tunnel-request-cemi-part : One TunnelRequest.CemiPartPromise
+tunnel-request-cemi-part s r q = same
+
+-- tunnelling::TunnelingAck::new
+pub ack-new : One₂ Ack.NewPromise
+ack-new h status r q = same
+
+-- tunnelling::TunnelingAck::build
+pub ack-build : Lent Ack.BuildPromise
+ack-build = AckLaws.build-one
+
+-- tunnelling::TunnelingAck::parse
+pub ack-parse : One Ack.ParsePromise
+ack-parse = AckLaws.parse-one
+
+-- tunnelling::TunnelingAck::is_ok
+pub ack-is-ok : One Ack.IsOkPromise
+ack-is-ok a r q = same

@@ -7,12 +7,13 @@ use lib.ListN.{length, length-append}
 use Rattle.wire.specs.Layout.{put, copied}
 use Rattle.wire.specs.LayoutLaws.{copied-behind, length-three}
 use Rattle.wire.specs.Written.{onto}
+use Rattle.wire.specs.WrittenLaws.{writes-one}
 use Rattle.wire.specs.declared.refusals.Written.{Written}
 use Rattle.constants.specs.Constants.{headerSize, version10}
 use Rattle.constants.specs.Services.{codeOf}
 use Rattle.constants.specs.declared.ServiceType.{ServiceType}
 use Rattle.header.specs.Header.{fields}
-use Rattle.frame.specs.Builder.{frame, WriteFramePromise}
+use Rattle.frame.specs.Builder.{frame, frameChecks, WriteFramePromise}
 
 -- the header of a total length
 abbrev pub lead : ServiceType → ℕ → List ℕ
@@ -43,3 +44,7 @@ laid s a b c buf one two three four room e₁ e₂ e₃ e₄ =
 pub same-body : (s : ServiceType) (body other before : List ℕ) (r : Written) (after : List ℕ)
     → body ≡ other → WriteFramePromise s body before r after → WriteFramePromise s other before r after
 same-body s body other before r after e x = subst (λ (l : List ℕ). WriteFramePromise s l before r after) e x
+
+pub write-one : (s : ServiceType) (body before : List ℕ) (r q : Written) (after later : List ℕ)
+    → WriteFramePromise s body before r after → WriteFramePromise s body before q later → (r ≡ q) × (after ≡ later)
+write-one s body before = writes-one (frameChecks (length body) (length before)) (frame s body) before

@@ -90,6 +90,14 @@ frame-back cs s body b n after promised =
     let w = wrote cs (frame s body) b n after promised in
     (w .count ∙ omega arith, subst (Back s body b) (sym (w .bytes)) (back s body b))
 
+-- whoever parses the buffer and takes the body gets the body that was built
+pub taken : (s : ServiceType) (body b after : List ℕ) (f : FrameFields) (r : List ℕ)
+    → Back s body b after → ParsePromise after (Frame f) → BodyPartPromise f after r → r ≡ body
+taken s body b after f r back p q =
+    let e : Frame f ≡ Frame (built s body) = told-one (Frame f) (Frame (built s body)) (p ∙ back .fields-back) in
+    let same-fields : f ≡ built s body = cc in
+    q ∙ ap (λ (g : FrameFields). shown after (bodyBy01 g after)) same-fields ∙ back .body-back
+
 pub build-back : (f : FrameBuilder) (body b : List ℕ) (n : ℕ) (after : List ℕ)
     → BuildPromise f body b (W.Bytes n) after → (n ≡ 6 + length body) × Back (f .«service_type») body b after
 build-back f body b = frame-back (Builder.checks (length body) (length b)) (f .«service_type») body b

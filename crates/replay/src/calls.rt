@@ -1,7 +1,9 @@
 // One record: the lent buffer is filled with the pattern, the call is made, and its line is written.
+use crate::connect_calls;
 use crate::frame_calls;
 use crate::lines;
 use crate::lines::Told;
+use crate::tunnel_calls;
 
 // A record that lends more than there is gets no line of its own, and so a line that is not expected.
 pub(crate) fn record(call: u8, args: &[u8], m: usize, buf: &mut [u8], out: &mut [u8]) -> usize {
@@ -38,6 +40,34 @@ fn answer(call: u8, args: &[u8], buf: &mut [u8]) -> Told {
         9 => frame_calls::hpai_new(args),
         10 => frame_calls::hpai_parse(args),
         11 => frame_calls::hpai_encode(args, buf),
+        _ => connect_answer(call, args, buf),
+    }
+}
+
+fn connect_answer(call: u8, args: &[u8], buf: &mut [u8]) -> Told {
+    match call {
+        12 => connect_calls::cri_tunnel(),
+        13 => connect_calls::cri_encode(args, buf),
+        14 => connect_calls::cri_decode(args),
+        15 => connect_calls::connect_new(args, buf),
+        16 => connect_calls::connect_build(args, buf),
+        17 => connect_calls::connect_response(args),
+        18 => connect_calls::state_build(args, buf),
+        19 => connect_calls::state_parse(args),
+        20 => connect_calls::disconnect_build(args, buf),
+        21 => connect_calls::disconnect_parse(args),
+        _ => tunnel_answer(call, args, buf),
+    }
+}
+
+fn tunnel_answer(call: u8, args: &[u8], buf: &mut [u8]) -> Told {
+    match call {
+        22 => tunnel_calls::header_encode(args, buf),
+        23 => tunnel_calls::header_decode(args),
+        24 => tunnel_calls::request_build(args, buf),
+        25 => tunnel_calls::request_parse(args),
+        26 => tunnel_calls::ack_build(args, buf),
+        27 => tunnel_calls::ack_parse(args),
         _ => lines::done(0),
     }
 }

@@ -118,21 +118,26 @@ pub(crate) fn frame_size(args: &[u8]) -> Told {
     lines::one(FrameBuilder::new(service_at(args, 0)).size(body))
 }
 
-fn wide(x: u8) -> usize {
-    x as usize
+// The seven values of an Hpai, from a place on.
+pub(crate) fn hpai_into(told: Told, at: usize, h: Hpai) -> Told {
+    if at > 9 {
+        return told;
+    }
+    let ip = h.ip_address;
+    let mut t = told;
+    t.values[at] = h.structure_length as usize;
+    t.values[at + 1] = h.host_protocol as usize;
+    t.values[at + 2] = lines::wide(ip[0]);
+    t.values[at + 3] = lines::wide(ip[1]);
+    t.values[at + 4] = lines::wide(ip[2]);
+    t.values[at + 5] = lines::wide(ip[3]);
+    t.values[at + 6] = h.port as usize;
+    t
 }
 
 fn hpai(number: u8, h: Hpai) -> Told {
-    let ip = h.ip_address;
-    let mut t = lines::done(7);
+    let mut t = hpai_into(lines::done(7), 0, h);
     t.number = number;
-    t.values[0] = h.structure_length as usize;
-    t.values[1] = h.host_protocol as usize;
-    t.values[2] = wide(ip[0]);
-    t.values[3] = wide(ip[1]);
-    t.values[4] = wide(ip[2]);
-    t.values[5] = wide(ip[3]);
-    t.values[6] = h.port as usize;
     t
 }
 
@@ -146,6 +151,18 @@ fn address_at(args: &[u8], from: usize) -> [u8; 4] {
     ]
 }
 
+// The Hpai whose eight field bytes stand at a place.
+pub(crate) fn hpai_at(args: &[u8], from: usize) -> Hpai {
+    let s = wire::part(args, from, args.len());
+    let ip_address = address_at(s, 2);
+    Hpai {
+        structure_length: wire::byte_at(s, 0),
+        host_protocol: wire::byte_at(s, 1),
+        ip_address,
+        port: wire::word_at(s, 6),
+    }
+}
+
 pub(crate) fn hpai_new(args: &[u8]) -> Told {
     hpai(0, Hpai::new(address_at(args, 0), wire::word_at(args, 4)))
 }
@@ -157,12 +174,5 @@ pub(crate) fn hpai_parse(args: &[u8]) -> Told {
 }
 
 pub(crate) fn hpai_encode(args: &[u8], buf: &mut [u8]) -> Told {
-    let ip_address = address_at(args, 2);
-    let h = Hpai {
-        structure_length: wire::byte_at(args, 0),
-        host_protocol: wire::byte_at(args, 1),
-        ip_address,
-        port: wire::word_at(args, 6),
-    };
-    lines::written(h.encode(buf))
+    lines::written(hpai_at(args, 0).encode(buf))
 }

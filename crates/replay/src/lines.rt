@@ -36,6 +36,28 @@ pub(crate) fn one(n: usize) -> Told {
     t
 }
 
+pub(crate) fn two(a: u8, b: u8) -> Told {
+    let mut t = done(2);
+    t.values[0] = a as usize;
+    t.values[1] = b as usize;
+    t
+}
+
+pub(crate) fn three(a: u8, b: u8, c: bool) -> Told {
+    let mut t = two(a, b);
+    t.count = 3;
+    t.values[2] = flag(c);
+    t
+}
+
+pub(crate) fn flag(b: bool) -> usize {
+    if b { 1 } else { 0 }
+}
+
+pub(crate) fn wide(x: u8) -> usize {
+    x as usize
+}
+
 // What an encoder or a builder answered.
 pub(crate) fn written(w: Written) -> Told {
     let mut t = match w {

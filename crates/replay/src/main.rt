@@ -1,8 +1,10 @@
 // Replays records of calls, as compare/README.md lays them out, and writes a line for what each call told:
 // what the Rust answers to the same records is beside it, in `stdout` for the fixed sample.
 mod calls;
+mod connect_calls;
 mod frame_calls;
 mod lines;
+mod tunnel_calls;
 
 fn number24(s: &[u8]) -> usize {
     (wire::byte_at(s, 0) as usize) * 65536 + (wire::word_at(s, 1) as usize)

@@ -1,7 +1,7 @@
 -- An acknowledgement comes back from frame and body, what is accepted has its layout, and no second answer. Assumes nothing.
 use Prim.Native.Nat.{ℕ, _+_, _≤_}
 use native.Mathlib.Omega.{arith}
-use mathlib.Core.Path.{_≡_, refl, sym, ap, _∙_}
+use mathlib.Core.Path.{_≡_, refl, sym, ap, _∙_, subst}
 use mathlib.Core.List.{List, [], _∷_, _++_, append-nil}
 use lib.ListN.{length, getD, take}
 use lib.Dec.{ltb}
@@ -17,7 +17,10 @@ use Rattle.wire.specs.declared.refusals.Written.{Written}
 use Rattle.wire.specs.declared.refusals.Written.the-variants as W
 use Rattle.constants.specs.declared.ServiceType.the-variants.{TunnellingAck}
 use Rattle.frame.specs.Builder.{frame}
-use Rattle.frame.specs.RoundTrip.{Back, frame-back}
+use Rattle.frame.specs.RoundTrip.{Back, frame-back, taken}
+use Rattle.frame.specs.Frame as Frame
+use Rattle.frame.specs.declared.fields.FrameFields.{FrameFields}
+use Rattle.frame.specs.declared.fields.FrameAnswer.the-variants as F
 use Rattle.tunnelling.specs.ConnectionLaws as ConnectionLaws
 use Rattle.tunnelling.specs.Ack.{fields, layout, held, buildChecks, BuildPromise, told, checks, parseBy01, ParsePromise}
 use Rattle.tunnelling.specs.declared.ack.TunnelingAck.{TunnelingAck}
@@ -52,6 +55,13 @@ build-back a b = frame-back (buildChecks (length b)) TunnellingAck (layout a) b
 
 pub body-parse : (a : TunnelingAck) (r : TunnelingAckAnswer) → ParsePromise (layout a) r → r ≡ Ack a
 body-parse a r q = told-one r (Ack a) (q ∙ reads-back a [])
+
+-- built, parsed as a frame, its body parsed: the same channel, number and status
+pub round-trip : (a : TunnelingAck) (b : List ℕ) (n : ℕ) (after : List ℕ) (f : FrameFields) (body : List ℕ) (r : TunnelingAckAnswer)
+    → BuildPromise a b (W.Bytes n) after → Frame.ParsePromise after (F.Frame f) → Frame.BodyPartPromise f after body → ParsePromise body r → r ≡ Ack a
+round-trip a b n after f body r built p taken-so q =
+    let same-body : body ≡ layout a = taken TunnellingAck (layout a) b after f body (build-back a b n after built .1) p taken-so in
+    body-parse a r (subst (λ (l : List ℕ). ParsePromise l r) same-body q)
 
 -- but for the two bytes of the connection header that are not looked at
 pub has-layout : (s : List ℕ) (a : TunnelingAck) → Bytes s → ParsePromise s (Ack a)

@@ -2,7 +2,7 @@
 use Prim.Native.Nat.{ℕ, _+_, _≤_}
 use native.Mathlib.Omega.{arith}
 use mathlib.Core.Bool.{cond}
-use mathlib.Core.Path.{_≡_, refl, sym, ap, _∙_}
+use mathlib.Core.Path.{_≡_, refl, sym, ap, _∙_, subst}
 use mathlib.Core.List.{List, [], _∷_, _++_, append-nil}
 use lib.ListN.{length, drop}
 use lib.Dec.{ltb}
@@ -20,7 +20,10 @@ use Rattle.wire.specs.declared.refusals.Written.{Written}
 use Rattle.wire.specs.declared.refusals.Written.the-variants as W
 use Rattle.constants.specs.declared.ServiceType.the-variants.{TunnellingRequest}
 use Rattle.frame.specs.Builder.{frame, frameChecks}
-use Rattle.frame.specs.RoundTrip.{Back, frame-back}
+use Rattle.frame.specs.RoundTrip.{Back, frame-back, taken}
+use Rattle.frame.specs.Frame as Frame
+use Rattle.frame.specs.declared.fields.FrameFields.{FrameFields}
+use Rattle.frame.specs.declared.fields.FrameAnswer.the-variants as F
 use Rattle.tunnelling.specs.Connection as Connection
 use Rattle.tunnelling.specs.ConnectionLaws as ConnectionLaws
 use Rattle.tunnelling.specs.Request.{body, buildChecks, BuildPromise, told, ParsePromise, cemiBy01, CemiDataPromise, CemiPartPromise}
@@ -72,3 +75,12 @@ body-cemi t cemi r q =
     let s : List ℕ = body (t .«connection_header») cemi in
     let through = let-pass (Connection.checks (length s)) (viewed 4 (length s)) (ConnectionLaws.four (length s) (omega arith)) in
     q ∙ ap (shown s) through ∙ ap (λ (l : List ℕ). shown (w ++ l) (viewed 4 (length s))) (sym (append-nil cemi)) ∙ part-between w cemi [] 4 (length s) refl (omega arith)
+
+-- built, parsed as a frame, its body parsed: the same connection header, and the cEMI that was given
+pub round-trip : (t : TunnelingRequest) (cemi b : List ℕ) (n : ℕ) (after : List ℕ) (f : FrameFields) (part : List ℕ) (r : TunnelingRequestAnswer) (c : List ℕ)
+    → BuildPromise t cemi b (W.Bytes n) after → Frame.ParsePromise after (F.Frame f) → Frame.BodyPartPromise f after part
+    → ParsePromise part r → CemiPartPromise part c → (r ≡ Request t) × (c ≡ cemi)
+round-trip t cemi b n after f part r c built p taken-so q x =
+    let whole : List ℕ = body (t .«connection_header») cemi in
+    let same-body : part ≡ whole = taken TunnellingRequest whole b after f part (build-back t cemi b n after built .1) p taken-so in
+    (body-parse t cemi r (subst (λ (l : List ℕ). ParsePromise l r) same-body q), body-cemi t cemi c (subst (λ (l : List ℕ). CemiPartPromise l c) same-body x))
