@@ -1,4 +1,7 @@
 // The calls of services.rs that connect, keep alive and disconnect, 12 to 21.
+use crate::frame_calls;
+use crate::lines;
+use crate::lines::Told;
 use connect::ConnectRequest;
 use connect::ConnectResponse;
 use connect::ConnectionRequestInfo;
@@ -9,9 +12,6 @@ use connect::ConnectionStateResponse;
 use connect::DisconnectAnswer;
 use connect::DisconnectRequest;
 use connect::DisconnectResponse;
-use crate::frame_calls;
-use crate::lines;
-use crate::lines::Told;
 
 fn cri(c: ConnectionRequestInfo) -> Told {
     lines::two(c.connection_type, c.knx_layer)
@@ -78,7 +78,10 @@ pub(crate) fn connect_response(args: &[u8]) -> Told {
 }
 
 pub(crate) fn state_build(args: &[u8], buf: &mut [u8]) -> Told {
-    lines::written(ConnectionStateRequest::new(wire::byte_at(args, 0), frame_calls::hpai_at(args, 1)).build(buf))
+    lines::written(ConnectionStateRequest::new(
+        wire::byte_at(args, 0),
+        frame_calls::hpai_at(args, 1),
+    ).build(buf))
 }
 
 pub(crate) fn state_parse(args: &[u8]) -> Told {
@@ -89,7 +92,10 @@ pub(crate) fn state_parse(args: &[u8]) -> Told {
 }
 
 pub(crate) fn disconnect_build(args: &[u8], buf: &mut [u8]) -> Told {
-    lines::written(DisconnectRequest::new(wire::byte_at(args, 0), frame_calls::hpai_at(args, 1)).build(buf))
+    lines::written(DisconnectRequest::new(
+        wire::byte_at(args, 0),
+        frame_calls::hpai_at(args, 1),
+    ).build(buf))
 }
 
 pub(crate) fn disconnect_parse(args: &[u8]) -> Told {
