@@ -1,13 +1,12 @@
 -- Two bytes and an endpoint of eight: sixteen in all, which always fit sixteen bits. Assumes nothing.
 use Prim.Native.Nat.{ℕ, _+_}
-use mathlib.Core.Path.{_≡_, refl, ap}
-use mathlib.Core.List.{List, [], _∷_, _++_}
+use mathlib.Core.Path.{_≡_, ap}
+use mathlib.Core.List.{List, [], _∷_}
 use native.Mathlib.Omega.{arith}
 use lib.ListN.{length}
 use Rattle.wire.specs.Told.{verdict}
-use Rattle.wire.specs.WrittenLaws.{writes-as}
-use Rattle.frame.specs.Builder.{frame, frameChecks}
-use Rattle.frame.specs.BuilderLaws.{same-body}
+use Rattle.frame.specs.Builder.{frameChecks}
+use Rattle.frame.specs.BuilderLaws.{framed}
 use Rattle.connect.specs.Channel.{requestLayout, requestChecks}
 use borrow.Author.Needs.{needs}
 use Rattle.connect.proofs.channel.request.Statement.{statement}
@@ -33,12 +32,11 @@ returns c =
     let at-write = c .before .before in
     let made = c .before .before .before .before .before .before .to-bytes in
     let a = c .before .before .before .before .before .before .before .before .args in
-    let m : ℕ = length (a .buf .now) in
-    let whole : List ℕ = requestLayout (a .channel-id) (a .control-endpoint) in
+    let m = length (a .buf .now) in
+    let whole = requestLayout (a .channel-id) (a .control-endpoint) in
     let ten : length whole ≡ 10 = omega (arith, ap length (made .ensures .0), made .ensures .1) in
-    let wrote = same-body (a .service-type) (a .channel-id ∷ 0 ∷ made .result) whole (a .buf .now) (at-write .write-frame2 .result) (at-write .write-frame2 .last .1 .1 .1 .0) (ap (λ (l : List ℕ). a .channel-id ∷ 0 ∷ l) (made .ensures .0)) (at-write .write-frame2 .ensures) in
-    writes-as (frameChecks (length whole) m) (requestChecks m) (frame (a .service-type) whole) (frame (a .service-type) whole) (a .buf .now) (at-write .write-frame2 .result) (at-write .write-frame2 .last .1 .1 .1 .0)
-    (ap (λ (k : ℕ). verdict (frameChecks k m)) ten) refl wrote
+    framed (a .service-type) (requestChecks m) (a .channel-id ∷ 0 ∷ made .result) whole (a .buf .now) (at-write .write-frame2 .result) (at-write .write-frame2 .last .1 .1 .1 .0)
+    (ap (λ (l : List ℕ). a .channel-id ∷ 0 ∷ l) (made .ensures .0)) (ap (λ (k : ℕ). verdict (frameChecks k m)) ten) (at-write .write-frame2 .ensures)
 
 pub request-spec : {M : Type 1} → statement M
 request-spec =

@@ -1,13 +1,13 @@
 -- The header is written first, and each part is copied right behind what stands. Assumes nothing.
-use Prim.Native.Nat.{ℕ, _+_, _≤_}
+use Prim.Native.Nat.{ℕ, _+_}
 use mathlib.Core.Path.{_≡_, ap, sym, _∙_}
 use mathlib.Core.List.{List, [], _∷_, _++_}
 use native.Mathlib.Omega.{arith}
-use borrow.Author.Tests.{lt-ltb, le-ltb, ltb-true, ltb-false}
+use borrow.Author.Tests.{lt-ltb, le-ltb, ltb-false}
+use lib.Dec.{ltb}
 use lib.ListN.{length}
 use Rattle.wire.specs.Told.{done}
-use Rattle.wire.specs.LayoutLaws.{length-three}
-use Rattle.frame.specs.BuilderLaws.{lead, laid}
+use Rattle.frame.specs.BuilderLaws.{sum-of, laid}
 use borrow.Author.Needs.{needs}
 use Rattle.frame.proofs.write.write_frame3.Statement.{statement}
 use Rattle.frame.proofs.write.write_frame3.Tie as tie
@@ -18,13 +18,8 @@ short-requires c κs = search needs
 returns : tie.Need-returns
 returns c =
     let a = c .before .before .before .before .before .before .args in
-    let m : ℕ = length (a .buf .now) in
-    let sum : ℕ = 6 + length (a .a .now) + length (a .b .now) + length (a .c .now) in
-    let body : List ℕ = a .a .now ++ a .b .now ++ a .c .now in
-    let three = length-three (a .a .now) (a .b .now) (a .c .now) in
-    let full = ltb-true m sum (sym (c .before .short .ensures) ∙ c .if1 .taken) in
-    let h = lt-ltb m (6 + length body) (omega arith) in
-    (simp h, simp h)
+    let asked = ap (λ (k : ℕ). ltb (length (a .buf .now)) k) (sym (sum-of (a .a .now) (a .b .now) (a .c .now))) ∙ sym (c .before .short .ensures) ∙ c .if1 .taken in
+    (simp asked, simp asked)
 
 add-total : tie.Need-add-total
 add-total c = search needs
@@ -32,34 +27,21 @@ add-total c = search needs
 add-total-2 : tie.Need-add-total-2
 add-total-2 c =
     let a = c .before .before .before .before .before .before .args in
-    let m : ℕ = length (a .buf .now) in
-    let sum : ℕ = 6 + length (a .a .now) + length (a .b .now) + length (a .c .now) in
-    let body : List ℕ = a .a .now ++ a .b .now ++ a .c .now in
-    let three = length-three (a .a .now) (a .b .now) (a .c .now) in
-    let fits = ltb-false m sum (sym (c .before .short .ensures) ∙ c .if1 .left) in
+    let fits = ltb-false (length (a .buf .now)) (6 + length (a .a .now) + length (a .b .now) + length (a .c .now)) (sym (c .before .short .ensures) ∙ c .if1 .left) in
     omega arith
 
 add-total-3 : tie.Need-add-total-3
 add-total-3 c =
     let a = c .before .before .before .before .before .before .args in
-    let m : ℕ = length (a .buf .now) in
-    let sum : ℕ = 6 + length (a .a .now) + length (a .b .now) + length (a .c .now) in
-    let body : List ℕ = a .a .now ++ a .b .now ++ a .c .now in
-    let three = length-three (a .a .now) (a .b .now) (a .c .now) in
-    let fits = ltb-false m sum (sym (c .before .short .ensures) ∙ c .if1 .left) in
+    let fits = ltb-false (length (a .buf .now)) (6 + length (a .a .now) + length (a .b .now) + length (a .c .now)) (sym (c .before .short .ensures) ∙ c .if1 .left) in
     omega arith
 
 returns-2 : tie.Need-returns-2
 returns-2 c =
     let a = c .before .before .before .before .before .before .before .args in
-    let m : ℕ = length (a .buf .now) in
-    let sum : ℕ = 6 + length (a .a .now) + length (a .b .now) + length (a .c .now) in
-    let body : List ℕ = a .a .now ++ a .b .now ++ a .c .now in
-    let three = length-three (a .a .now) (a .b .now) (a .c .now) in
-    let fits = ltb-false m sum (sym (c .before .before .short .ensures) ∙ c .before .if1 .left) in
-    let h = le-ltb m (6 + length body) (omega arith) in
-    let k = lt-ltb 65535 (6 + length body) (omega arith) in
-    (simp (h, k), simp (h, k))
+    let asked = ap (λ (k : ℕ). ltb (length (a .buf .now)) k) (sym (sum-of (a .a .now) (a .b .now) (a .c .now))) ∙ sym (c .before .before .short .ensures) ∙ c .before .if1 .left in
+    let large = lt-ltb 65535 (6 + length (a .a .now ++ a .b .now ++ a .c .now)) (omega (arith, sum-of (a .a .now) (a .b .now) (a .c .now))) in
+    (simp (asked, large), simp (asked, large))
 
 cast-t17 : tie.Need-cast-t17
 cast-t17 c = search needs
@@ -91,19 +73,14 @@ same-length c = search needs
 returns-3 : tie.Need-returns-3
 returns-3 c =
     let a = c .before .before .before .before .before .before .before .before .before .before .before .before .before .before .before .before .before .before .before .before .before .before .before .args in
-    let m : ℕ = length (a .buf .now) in
-    let sum : ℕ = 6 + length (a .a .now) + length (a .b .now) + length (a .c .now) in
-    let body : List ℕ = a .a .now ++ a .b .now ++ a .c .now in
-    let three = length-three (a .a .now) (a .b .now) (a .c .now) in
+    let asked = ap (λ (k : ℕ). ltb (length (a .buf .now)) k) (sym (sum-of (a .a .now) (a .b .now) (a .c .now))) ∙ sym (c .before .before .before .before .before .before .before .before .before .before .before .before .before .before .before .before .before .before .short .ensures) ∙ c .before .before .before .before .before .before .before .before .before .before .before .before .before .before .before .before .before .if1 .left in
+    let fits = ltb-false (length (a .buf .now)) (6 + length (a .a .now) + length (a .b .now) + length (a .c .now)) (sym (c .before .before .before .before .before .before .before .before .before .before .before .before .before .before .before .before .before .before .short .ensures) ∙ c .before .before .before .before .before .before .before .before .before .before .before .before .before .before .before .before .before .if1 .left) in
+    let total = sum-of (a .a .now) (a .b .now) (a .c .now) in
+    let small = le-ltb 65535 (6 + length (a .a .now ++ a .b .now ++ a .c .now)) (omega arith) in
     let at-encode = c .before .before .before .before .before .before .before .before .before .before .before .before .before .before in
-    let fits = ltb-false m sum (sym (c .before .before .before .before .before .before .before .before .before .before .before .before .before .before .before .before .before .before .short .ensures) ∙ c .before .before .before .before .before .before .before .before .before .before .before .before .before .before .before .before .before .if1 .left) in
-    let small = c .before .before .before .before .before .before .before .before .before .before .before .before .before .before .before .before .if2 .left in
-    let h = le-ltb m (6 + length body) (omega arith) in
-    let k = le-ltb 65535 (6 + length body) (omega arith) in
-    let total : sum ≡ length (lead (a .service-type) 0 ++ body) = omega arith in
-    let headed = rw (le-ltb m 6 (omega arith)) at (at-encode .encode .ensures .1) in (
-      simp (h, k) (ap (λ (t : ℕ). done (t ∷ [])) total),
-      simp (h, k)
+    let headed = rw (le-ltb (length (a .buf .now)) 6 (omega arith)) at (at-encode .encode .ensures .1) in (
+      simp (asked, small) (ap (λ (t : ℕ). done (t ∷ [])) (total ∙ omega arith)),
+      simp (asked, small)
           (laid (a .service-type) (a .a .now) (a .b .now) (a .c .now) (a .buf .now) (at-encode .encode .last .1 .0) (c .before .before .before .before .before .before .before .before .before .before .copy-at .last .1 .0) (c .before .before .before .before .before .before .copy-at2 .last .1 .0) (c .before .before .copy-at3 .last .1 .0)
           (omega arith) headed (c .before .before .before .before .before .before .before .before .before .before .copy-at .ensures) (c .before .before .before .before .before .before .copy-at2 .ensures) (c .before .before .copy-at3 .ensures)),
     )
