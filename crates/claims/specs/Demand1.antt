@@ -16,6 +16,9 @@ use Rattle.wire.specs.declared.refusals.Written.{Written}
 use Rattle.wire.specs.declared.parts.View.{View}
 use Rattle.constants.specs.Services.{serviceCheck, codeOf}
 use Rattle.constants.specs.Services as Services
+use Rattle.wire.specs.Coding.{check}
+use Rattle.constants.specs.MessageCodes as MessageCodes
+use Rattle.constants.specs.declared.message_code.CEMIMessageCodeAnswer.{CEMIMessageCodeAnswer}
 use Rattle.constants.specs.declared.ServiceType.{ServiceType}
 use Rattle.constants.specs.declared.ServiceAnswer.{ServiceAnswer}
 use Rattle.header.specs.Header as Header
@@ -59,6 +62,9 @@ write w b = writes-refusing (room (length w) (length b) ∷ []) w b
 
 pub service-from : (code : ℕ) (r : ServiceAnswer) → Services.FromPromise code r → Refusing (Services.told r)
 service-from code r = judged-refusing (serviceCheck code ∷ []) (done (code ∷ [])) (Services.told r) refl
+
+pub message-code-from : (n : ℕ) (r : CEMIMessageCodeAnswer) → MessageCodes.FromPromise n r → Refusing (MessageCodes.told r)
+message-code-from n r = judged-refusing (check MessageCodes.messageCodes n ∷ []) (done (n ∷ [])) (MessageCodes.told r) refl
 
 -- ---- header
 

@@ -9,9 +9,19 @@ use Rattle.wire.specs.Written.{tells, leaves}
 use Rattle.wire.specs.declared.refusals.Written.the-variants as W
 use Rattle.constants.specs.Services as Services
 use Rattle.constants.specs.ServiceLaws as ServiceLaws
+use Rattle.constants.specs.MessageCodes as MessageCodes
+use Rattle.constants.specs.MessageCodeLaws as MessageCodeLaws
+use Rattle.constants.specs.declared.message_code.CEMIMessageCode.{CEMIMessageCode}
+use Rattle.constants.specs.declared.message_code.CEMIMessageCodeAnswer.{CEMIMessageCodeAnswer}
+use Rattle.constants.specs.declared.message_code.CEMIMessageCodeAnswer.the-variants as M
 use Rattle.constants.specs.declared.ServiceType.{ServiceType}
 use Rattle.constants.specs.declared.ServiceAnswer.{ServiceAnswer}
 use Rattle.constants.specs.declared.ServiceAnswer.the-variants as S
+use mathlib.Core.Bool.{Bool}
+use Rattle.constants.specs.declared.priorities.Priority.{Priority}
+use Rattle.control.specs.First as First
+use Rattle.control.specs.Second as Second
+use Rattle.control.specs.FieldLaws as FieldLaws
 use Rattle.header.specs.Header as Header
 use Rattle.header.specs.HeaderLaws as HeaderLaws
 use Rattle.header.specs.declared.KnxnetIpHeader.{KnxnetIpHeader}
@@ -114,6 +124,12 @@ service-to-from = ServiceLaws.from-to
 pub service-from-to : (code : ℕ) (s : ServiceType) → Services.FromPromise code (S.Service s) → Services.ToPromise s code
 service-from-to = ServiceLaws.to-from
 
+pub message-code-to-from : (m : CEMIMessageCode) (n : ℕ) (r : CEMIMessageCodeAnswer) → MessageCodes.ToPromise m n → MessageCodes.FromPromise n r → r ≡ M.Code m
+message-code-to-from = MessageCodeLaws.from-to
+
+pub message-code-from-to : (n : ℕ) (m : CEMIMessageCode) → MessageCodes.FromPromise n (M.Code m) → MessageCodes.ToPromise m n
+message-code-from-to = MessageCodeLaws.to-from
+
 pub header-encode-parse : (h : KnxnetIpHeader) (b : List ℕ) (n : ℕ) (after : List ℕ) (r : HeaderAnswer)
     → HeaderLaws.Proper h → Header.EncodePromise h b (W.Bytes n) after → Header.ParsePromise after r → r ≡ H.Header h
 header-encode-parse = HeaderLaws.encode-parse
@@ -203,3 +219,13 @@ channel-request-back = ChannelLaws.request-back
 
 pub channel-request-endpoint : (channel : ℕ) (h : Hpai) (r : HpaiAnswer) → HpaiLaws.Proper h → Hpai.ParsePromise (drop 2 (Channel.requestLayout channel h)) r → r ≡ HpaiLaws.accepted h
 channel-request-endpoint = ChannelLaws.endpoint-back
+
+-- ---- cemi.rs: control fields
+
+-- each accessor of a field that `new` made gives `new`'s argument; bit 6 of the first is 0, and the second keeps low bits
+pub control1-reads : (standard single broadcast : Bool) (priority : Priority) (ack error : Bool)
+    → FieldLaws.FirstReads (First.newRaw standard single broadcast priority ack error) standard single broadcast priority ack error
+control1-reads = FieldLaws.first-reads
+
+pub control2-reads : (group : Bool) (hops format : ℕ) → FieldLaws.SecondReads (Second.newRaw group hops format) group hops format
+control2-reads = FieldLaws.second-reads

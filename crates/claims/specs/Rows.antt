@@ -3,7 +3,6 @@ use Prim.Native.Nat.{ℕ}
 use mathlib.Core.Path.{_≡_, refl}
 use mathlib.Core.List.{List, [], _∷_}
 use Rattle.wire.specs.Told.{viewed}
-use Rattle.wire.specs.Parts.{shown}
 use Rattle.constants.specs.declared.ServiceType.the-variants.{TunnellingRequest}
 use Rattle.header.specs.Header as Header
 use Rattle.frame.specs.Frame as Frame

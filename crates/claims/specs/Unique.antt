@@ -11,7 +11,18 @@ use Rattle.wire.specs.WrittenLaws.{write-one}
 use Rattle.wire.specs.PartLaws as PartLaws
 use Rattle.constants.specs.Services as Services
 use Rattle.constants.specs.ServiceLaws as ServiceLaws
+use Rattle.constants.specs.MessageCodes as MessageCodes
+use Rattle.constants.specs.MessageCodeLaws as MessageCodeLaws
+use Rattle.constants.specs.Priorities as Priorities
+use Rattle.constants.specs.PriorityLaws as PriorityLaws
 use Rattle.address.specs.Address.{GroupFromPromise, GroupToPromise, IndividualFromPromise, IndividualToPromise}
+use mathlib.Core.Bool.{Bool}
+use Rattle.constants.specs.declared.priorities.Priority.{Priority}
+use Rattle.control.specs.First as First
+use Rattle.control.specs.Second as Second
+use Rattle.control.specs.FieldLaws as FieldLaws
+use Rattle.control.specs.declared.first.ControlField1.{ControlField1}
+use Rattle.control.specs.declared.second.ControlField2.{ControlField2}
 use Rattle.header.specs.Header as Header
 use Rattle.header.specs.HeaderLaws as HeaderLaws
 use Rattle.frame.specs.Frame as Frame
@@ -129,6 +140,100 @@ service-from = ServiceLaws.from-one
 -- constants::ServiceType::to_u16
 pub service-to : One Services.ToPromise
 service-to s r q = same
+
+-- constants::CEMIMessageCode::from_u8
+pub message-code-from : One MessageCodes.FromPromise
+message-code-from = MessageCodeLaws.from-one
+
+-- constants::CEMIMessageCode::to_u8
+pub message-code-to : One MessageCodes.ToPromise
+message-code-to m r q = same
+
+-- constants::Priority::from_u8
+pub priority-from : One Priorities.FromPromise
+priority-from = PriorityLaws.from-one
+
+-- constants::Priority::to_u8
+pub priority-to : One Priorities.ToPromise
+priority-to p r q = same
+
+-- ---- control
+
+-- control::ControlField1::from_u8
+pub control1-from : One First.FromPromise
+control1-from raw r q = same
+
+-- control::ControlField1::to_u8
+pub control1-to : One First.ToPromise
+control1-to c r q = same
+
+-- control::ControlField1::raw
+pub control1-raw : One First.ToPromise
+control1-raw c r q = same
+
+-- control::ControlField1::is_standard_frame
+pub control1-standard-frame : One First.StandardFramePromise
+control1-standard-frame c r q = same
+
+-- control::ControlField1::do_not_repeat
+pub control1-do-not-repeat : One First.DoNotRepeatPromise
+control1-do-not-repeat c r q = same
+
+-- control::ControlField1::is_broadcast
+pub control1-broadcast : One First.BroadcastPromise
+control1-broadcast c r q = same
+
+-- control::ControlField1::priority
+pub control1-priority : One First.PriorityPromise
+control1-priority = FieldLaws.priority-one
+
+-- control::ControlField1::ack_requested
+pub control1-ack-requested : One First.AckRequestedPromise
+control1-ack-requested c r q = same
+
+-- control::ControlField1::has_error
+pub control1-has-error : One First.HasErrorPromise
+control1-has-error c r q = same
+
+-- control::ControlField1::new
+pub control1-new : (standard single broadcast : Bool) (priority : Priority) → One₂ (First.NewPromise standard single broadcast priority)
+control1-new standard single broadcast priority ack error r q = same
+
+-- control::ControlField1::default
+pub control1-default : (r q : ControlField1) → First.DefaultPromise r → First.DefaultPromise q → r ≡ q
+control1-default r q = same
+
+-- control::ControlField2::from_u8
+pub control2-from : One Second.FromPromise
+control2-from raw r q = same
+
+-- control::ControlField2::to_u8
+pub control2-to : One Second.ToPromise
+control2-to c r q = same
+
+-- control::ControlField2::raw
+pub control2-raw : One Second.ToPromise
+control2-raw c r q = same
+
+-- control::ControlField2::is_group_address
+pub control2-group-address : One Second.GroupAddressPromise
+control2-group-address c r q = same
+
+-- control::ControlField2::hop_count
+pub control2-hop-count : One Second.HopCountPromise
+control2-hop-count c r q = same
+
+-- control::ControlField2::extended_format
+pub control2-extended-format : One Second.ExtendedFormatPromise
+control2-extended-format c r q = same
+
+-- control::ControlField2::new
+pub control2-new : One₃ Second.NewPromise
+control2-new group hops format r q = same
+
+-- control::ControlField2::default
+pub control2-default : (r q : ControlField2) → Second.DefaultPromise r → Second.DefaultPromise q → r ≡ q
+control2-default r q = same
 
 -- ---- header
 

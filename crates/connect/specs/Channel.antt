@@ -8,7 +8,6 @@ use lib.Dec.{ltb, eqb}
 use Rattle.wire.specs.Told.{Told, done, refused, Check, _⇒_, judged}
 use Rattle.wire.specs.Written.{Writes, room}
 use Rattle.wire.specs.Layout.{Field, byte, size, put, get}
-use Rattle.wire.specs.declared.refusals.Refusal.{Refusal}
 use Rattle.wire.specs.declared.refusals.Refusal.the-variants.{BufferTooSmall}
 use Rattle.wire.specs.declared.refusals.Written.{Written}
 use Rattle.constants.specs.declared.ServiceType.{ServiceType}

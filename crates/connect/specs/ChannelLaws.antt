@@ -2,7 +2,7 @@
 use Prim.Native.Nat.{ℕ, _+_, _≤_}
 use native.Mathlib.Omega.{arith}
 use mathlib.Core.Path.{_≡_, refl, sym, ap, _∙_}
-use mathlib.Core.List.{List, [], _∷_, _++_, append-nil}
+use mathlib.Core.List.{List, [], _∷_, append-nil}
 use lib.ListN.{length, getD, take, drop}
 use lib.Dec.{ltb}
 use borrow.Author.Tests.{ltb-false}
@@ -22,10 +22,8 @@ use Rattle.hpai.specs.HpaiLaws as HpaiLaws
 use Rattle.hpai.specs.declared.Hpai.{Hpai}
 use Rattle.hpai.specs.declared.HpaiAnswer.{HpaiAnswer}
 use Rattle.connect.specs.Channel.{requestLayout, requestChecks, RequestPromise, statusFields, statusChecks, statusBy01, status, toldState, StateParsePromise, toldDisconnect, DisconnectParsePromise}
-use Rattle.connect.specs.declared.channel.ConnectionStateResponse.{ConnectionStateResponse}
 use Rattle.connect.specs.declared.channel.ConnectionStateAnswer.{ConnectionStateAnswer}
 use Rattle.connect.specs.declared.channel.ConnectionStateAnswer.the-variants as C
-use Rattle.connect.specs.declared.channel.DisconnectResponse.{DisconnectResponse}
 use Rattle.connect.specs.declared.channel.DisconnectAnswer.{DisconnectAnswer}
 use Rattle.connect.specs.declared.channel.DisconnectAnswer.the-variants as D
 

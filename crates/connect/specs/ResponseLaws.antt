@@ -1,5 +1,5 @@
 -- A connect response: how it goes on from its endpoint, both ways, and no second answer. Assumes nothing.
-use Prim.Native.Nat.{ℕ, _+_, _-_, _≤_}
+use Prim.Native.Nat.{ℕ, _+_, _≤_}
 use native.Mathlib.Omega.{arith}
 use mathlib.Core.Path.{_≡_, refl, sym, ap, _∙_}
 use mathlib.Core.List.{List, [], _∷_, _++_, append-assoc}
@@ -14,7 +14,6 @@ use Rattle.wire.specs.LayoutLaws.{Bytes, get-part, put-get, get-put, length-put
 use Rattle.wire.specs.declared.refusals.Refusal.the-variants.{BufferTooSmall}
 use Rattle.wire.specs.declared.refusals.Verdict.the-variants.{Accept}
 use Rattle.hpai.specs.Hpai as Hpai
-use Rattle.hpai.specs.HpaiLaws as HpaiLaws
 use Rattle.hpai.specs.declared.Hpai.{Hpai}
 use Rattle.hpai.specs.declared.HpaiAnswer.{HpaiAnswer}
 use Rattle.connect.specs.Response.{fields, values, layout, checks, told, parseBy01, Arrays, ParsePromise}

@@ -1,25 +1,24 @@
 -- The header both ways: what is written is read back, what is accepted has the layout of its answer; and no second answer. Assumes nothing.
 use Prim.Native.Nat.{ℕ, _+_, _≤_}
-use native.Mathlib.Nat.{zero-add}
 use native.Mathlib.Omega.{arith}
 use mathlib.Core.Path.{_≡_, refl, sym, ap, _∙_}
-use mathlib.Core.List.{List, [], _∷_, _++_}
-use lib.ListN.{length, getD, take, drop, length-append}
+use mathlib.Core.List.{List, [], _++_}
+use lib.ListN.{length, take, drop}
 use lib.Dec.{ltb}
 use borrow.Author.Tests.{le-ltb, eq-eqb, ltb-false}
-use Rattle.wire.specs.Told.{Told, done, Check, _⇒_, verdict, judged}
+use Rattle.wire.specs.Told.{Told, done, verdict, judged}
 use Rattle.wire.specs.ToldLaws.{one-to-one, answerOf, back-refused, holds, let-pass, was-accepted, let-through, same}
-use Rattle.wire.specs.Layout.{size, put, get}
+use Rattle.wire.specs.Layout.{put, get}
 use Rattle.wire.specs.LayoutLaws.{Bytes, put-get, get-put}
 use Rattle.wire.specs.WrittenLaws.{writes-one, wrote}
 use Rattle.wire.specs.declared.refusals.Refusal.the-variants.{BufferTooSmall}
 use Rattle.wire.specs.declared.refusals.Written.{Written}
 use Rattle.wire.specs.declared.refusals.Written.the-variants as W
 use Rattle.constants.specs.Constants.{headerSize, version10}
-use Rattle.constants.specs.Services.{codeOf}
-use Rattle.constants.specs.ServiceLaws.{serviceOf, coded}
+use Rattle.constants.specs.Services.{serviceOf}
+use Rattle.constants.specs.ServiceLaws.{back, known}
 use Rattle.constants.specs.declared.ServiceType.{ServiceType}
-use Rattle.header.specs.Header.{fields, values, layout, lengthIn, versionIn, serviceIn, totalIn, checks, told, parseBy01, ParsePromise, made, NewPromise, encodeChecks, EncodePromise}
+use Rattle.header.specs.Header.{fields, values, layout, lengthIn, versionIn, serviceIn, totalIn, checks, told, parseBy01, ParsePromise, NewPromise, encodeChecks, EncodePromise}
 use Rattle.header.specs.declared.KnxnetIpHeader.{KnxnetIpHeader}
 use Rattle.header.specs.declared.HeaderAnswer.{HeaderAnswer}
 use Rattle.header.specs.declared.HeaderAnswer.the-variants.{Header, Refused}
@@ -32,7 +31,7 @@ headerOf vs = record { «header_length» = lengthIn vs; «protocol_version» = v
 
 pub header-of-values : (h : KnxnetIpHeader) → headerOf (values h) ≡ h
 unfolding headerOf
-header-of-values h = simp (coded (h .«service_type») .back)
+header-of-values h = simp (back (h .«service_type»))
 
 answered : List ℕ → HeaderAnswer
 answered vs = Header (headerOf vs)
@@ -65,7 +64,7 @@ pub record Proper (h : KnxnetIpHeader) : Type 0 where
 -- the checks hold of a proper header's values
 pub proper-holds : (h : KnxnetIpHeader) (n : ℕ) → Proper h → 6 ≤ n → verdict (checks n (values h)) ≡ verdict []
 proper-holds h n p room =
-    simp (le-ltb n 6 room, eq-eqb _ _ (p .length-6), eq-eqb _ _ (p .version-1), coded (h .«service_type») .known)
+    simp (le-ltb n 6 room, eq-eqb _ _ (p .length-6), eq-eqb _ _ (p .version-1), known (h .«service_type»))
 
 pub got : (h : KnxnetIpHeader) (rest : List ℕ) → get fields 0 (layout h ++ rest) ≡ values h
 got h rest = get-put fields (values h) [] rest 0 refl refl

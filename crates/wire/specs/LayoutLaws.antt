@@ -1,5 +1,5 @@
 -- Laws of every layout, both ways: what is put is got, and what is got is what stands there. Assumes nothing.
-use Prim.Native.Nat.{ℕ, zero, suc, _+_, _/_, _%_, _<_, _≤_}
+use Prim.Native.Nat.{ℕ, zero, suc, _+_, _<_, _≤_}
 use native.Mathlib.Nat.{div-add-mod', zero-add}
 use native.Mathlib.Numerals.{add-one}
 use native.Mathlib.Omega.{arith}
@@ -8,7 +8,7 @@ use mathlib.Core.List.{List, [], _∷_, _++_, append-assoc}
 use lib.ListN.{length, getD, take, drop, length-append, length-drop, take-append-drop}
 use lib.Seq.{getD-take, getD-drop, drop-cons, drop-drop, take-add, getD-at, append-snoc, take-at, drop-at, length-take-le, take-length, take-all, paste, take-append-seam, drop-append-add}
 use borrow.Author.Tests.{le-leb}
-use Rattle.wire.specs.Layout.{wordOf, highOf, lowOf, wordAt, runAt, Field, byte, word, run, size, put, get, copied}
+use Rattle.wire.specs.Layout.{wordOf, highOf, lowOf, runAt, Field, byte, word, run, size, put, get, copied}
 use Rattle.wire.specs.Written.{onto}
 
 -- each element is a byte

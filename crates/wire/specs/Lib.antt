@@ -3,6 +3,7 @@ pub mod Told
 pub mod Written
 pub mod Parts
 pub mod Layout
+pub mod Coding
 pub mod ToldLaws
 pub mod LayoutLaws
 pub mod Refusing

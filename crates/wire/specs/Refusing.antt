@@ -1,9 +1,8 @@
 -- Demand 1, for every promise that goes by checks: a number other than 0 is one of 1 to 13, with zeros and an empty view, and changes no lent byte. Assumes nothing.
 use Prim.Native.Nat.{ℕ, _≤_}
-use mathlib.Core.Path.{_≡_, refl, sym, ap, _∙_}
+use mathlib.Core.Path.{_≡_, refl, sym, ap}
 use mathlib.Core.List.{List, [], _∷_}
 use lib.ListN.{length, replicate, length-replicate}
-use Rattle.wire.specs.Numbers.{numberOf}
 use Rattle.wire.specs.Told.{Told, Check, done, refused, verdict, answer, judged, lent}
 use Rattle.wire.specs.Written.{told, onto, Writes}
 use Rattle.wire.specs.ToldLaws.{numbered}

@@ -1,6 +1,6 @@
 -- What every encoder and builder promises has no second answer, and what it wrote stands in the buffer. Assumes nothing.
 use Prim.Native.Nat.{ℕ}
-use mathlib.Core.Path.{_≡_, refl, sym, ap, _∙_}
+use mathlib.Core.Path.{_≡_, refl, ap, _∙_}
 use mathlib.Core.List.{List, [], _∷_}
 use lib.ListN.{length, getD}
 use Rattle.wire.specs.Told.{Told, done, Check, verdict, answer, lent}

@@ -1,7 +1,6 @@
 -- One law of `ResponseLaws` for each way out after the endpoint. Assumes nothing.
-use mathlib.Core.Path.{_≡_, refl, ap, _∙_}
+use mathlib.Core.Path.{refl, _∙_}
 use borrow.Author.Tests.{lt-ltb}
-use lib.ListN.{length}
 use Rattle.connect.specs.ResponseLaws.{fell, stood}
 use borrow.Author.Needs.{needs}
 use Rattle.connect.proofs.response.ConnectResponse.parse.Statement.{statement}

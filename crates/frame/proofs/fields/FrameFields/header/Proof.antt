@@ -1,5 +1,5 @@
 -- Assumes nothing.
-use mathlib.Core.Path.{_≡_, sym, _∙_}
+use mathlib.Core.Path.{sym, _∙_}
 use lib.ListN.{length}
 use Rattle.wire.specs.ToldLaws.{let-pass, let-refuse}
 use Rattle.wire.specs.Told.{done}

@@ -1,0 +1,5 @@
+pub mod Bits
+pub mod First
+pub mod Second
+pub mod BitLaws
+pub mod FieldLaws
