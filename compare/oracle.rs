@@ -7,6 +7,7 @@
 pub mod addressing;
 pub mod calls;
 pub mod error;
+mod cemi_calls;
 mod services_calls;
 
 pub mod protocol {

@@ -3,7 +3,7 @@ use Prim.Native.Nat.{ℕ, _+_, _≤_}
 use mathlib.Core.Path.{_≡_}
 use mathlib.Core.List.{List, [], _∷_, _++_}
 use lib.ListN.{length, take, drop, getD}
-use Rattle.wire.specs.Told.{Told, done}
+use Rattle.wire.specs.Told.{Told, done, noneOf}
 use Rattle.wire.specs.LayoutLaws.{Bytes}
 use Rattle.wire.specs.Written.{tells, leaves}
 use Rattle.wire.specs.declared.refusals.Written.the-variants as W
@@ -17,11 +17,14 @@ use Rattle.constants.specs.declared.message_code.CEMIMessageCodeAnswer.the-vari
 use Rattle.constants.specs.declared.ServiceType.{ServiceType}
 use Rattle.constants.specs.declared.ServiceAnswer.{ServiceAnswer}
 use Rattle.constants.specs.declared.ServiceAnswer.the-variants as S
-use mathlib.Core.Bool.{Bool}
+use mathlib.Core.Bool.{Bool, true}
 use Rattle.constants.specs.declared.priorities.Priority.{Priority}
 use Rattle.control.specs.First as First
 use Rattle.control.specs.Second as Second
 use Rattle.control.specs.FieldLaws as FieldLaws
+use Rattle.pci.specs.Application as Application
+use Rattle.pci.specs.PciLaws as PciLaws
+use Rattle.pci.specs.declared.application.Apci.the-variants as P
 use Rattle.header.specs.Header as Header
 use Rattle.header.specs.HeaderLaws as HeaderLaws
 use Rattle.header.specs.declared.KnxnetIpHeader.{KnxnetIpHeader}
@@ -229,3 +232,12 @@ control1-reads = FieldLaws.first-reads
 
 pub control2-reads : (group : Bool) (hops format : ℕ) → FieldLaws.SecondReads (Second.newRaw group hops format) group hops format
 control2-reads = FieldLaws.second-reads
+
+-- ---- cemi.rs: APCI
+
+-- what is read from a code has that code, and a named code is never `Unknown`
+pub apci-code-back : (n : ℕ) → Application.codeOf (Application.apciOf n) ≡ n
+apci-code-back = PciLaws.code-back
+
+pub apci-never-unknown : (n m : ℕ) → Application.apciOf n ≡ P.Unknown m → noneOf n PciLaws.named ≡ true
+apci-never-unknown = PciLaws.never-unknown

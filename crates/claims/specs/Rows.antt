@@ -1,9 +1,11 @@
--- 01, "Cases on both sides": the P rows of the frame, proved together as one table.
+-- 01, "Cases on both sides": the P rows of the frame and of APCI, proved together as one table.
 use Prim.Native.Nat.{ℕ}
 use mathlib.Core.Path.{_≡_, refl}
 use mathlib.Core.List.{List, [], _∷_}
 use Rattle.wire.specs.Told.{viewed}
 use Rattle.constants.specs.declared.ServiceType.the-variants.{TunnellingRequest}
+use Rattle.pci.specs.Application.{apciOf, codeIn}
+use Rattle.pci.specs.declared.application.Apci.the-variants.{Unknown}
 use Rattle.header.specs.Header as Header
 use Rattle.frame.specs.Frame as Frame
 use Rattle.frame.specs.RoundTrip.{built}
@@ -29,6 +31,7 @@ pub record P : Type 0 where
   pub total-as-header : asHeader (0x06 ∷ 0x10 ∷ 0x04 ∷ 0x20 ∷ 0x00 ∷ 0x05 ∷ []) ≡ 0
   pub bare-frame : Frame.parseBy01 bare ≡ Frame.told (Frame (built TunnellingRequest []))
   pub bare-body : Frame.bodyBy01 (built TunnellingRequest []) bare ≡ viewed 6 6
+  pub apci-02-C0 : apciOf (codeIn 0x02 0xC0) ≡ Unknown 0x2C0
 
 pub rows : P
 rows = record {
@@ -41,4 +44,5 @@ rows = record {
   total-as-header = refl;
   bare-frame = refl;
   bare-body = refl;
+  apci-02-C0 = refl;
 }

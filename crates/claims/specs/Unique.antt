@@ -23,6 +23,9 @@ use Rattle.control.specs.Second as Second
 use Rattle.control.specs.FieldLaws as FieldLaws
 use Rattle.control.specs.declared.first.ControlField1.{ControlField1}
 use Rattle.control.specs.declared.second.ControlField2.{ControlField2}
+use Rattle.pci.specs.Transport as Transport
+use Rattle.pci.specs.Application as Application
+use Rattle.pci.specs.PciLaws as PciLaws
 use Rattle.header.specs.Header as Header
 use Rattle.header.specs.HeaderLaws as HeaderLaws
 use Rattle.frame.specs.Frame as Frame
@@ -234,6 +237,28 @@ control2-new group hops format r q = same
 -- control::ControlField2::default
 pub control2-default : (r q : ControlField2) → Second.DefaultPromise r → Second.DefaultPromise q → r ≡ q
 control2-default r q = same
+
+-- ---- pci
+
+-- pci::Tpci::from_byte
+pub tpci-from-byte : One Transport.FromPromise
+tpci-from-byte = PciLaws.from-byte-one
+
+-- pci::Tpci::is_data
+pub tpci-is-data : One Transport.IsDataPromise
+tpci-is-data t r q = same
+
+-- pci::Apci::from_bytes
+pub apci-from-bytes : One₂ Application.FromPromise
+apci-from-bytes first second r q = same
+
+-- pci::Apci::to_u16
+pub apci-to : One Application.ToPromise
+apci-to a r q = same
+
+-- pci::extract_6bit_value
+pub six-bit-value : One Application.SixBitPromise
+six-bit-value byte r q = same
 
 -- ---- header
 

@@ -1,4 +1,5 @@
 // One record: the lent buffer is filled with the pattern, the call is made, and its line is written.
+use crate::cemi_calls;
 use crate::connect_calls;
 use crate::frame_calls;
 use crate::lines;
@@ -68,6 +69,24 @@ fn tunnel_answer(call: u8, args: &[u8], buf: &mut [u8]) -> Told {
         25 => tunnel_calls::request_parse(args),
         26 => tunnel_calls::ack_build(args, buf),
         27 => tunnel_calls::ack_parse(args),
+        _ => cemi_answer(call, args),
+    }
+}
+
+fn cemi_answer(call: u8, args: &[u8]) -> Told {
+    match call {
+        28 => cemi_calls::message_code_from(args),
+        29 => cemi_calls::priority_from(args),
+        30 => cemi_calls::control1_read(args),
+        31 => cemi_calls::control1_new(args),
+        32 => cemi_calls::control1_default(),
+        33 => cemi_calls::control2_read(args),
+        34 => cemi_calls::control2_new(args),
+        35 => cemi_calls::control2_default(),
+        36 => cemi_calls::tpci_from(args),
+        37 => cemi_calls::apci_from(args),
+        38 => cemi_calls::apci_unknown(args),
+        39 => cemi_calls::six_bits(args),
         _ => lines::done(0),
     }
 }

@@ -1,6 +1,7 @@
 // Replays records of calls, as compare/README.md lays them out, and writes a line for what each call told:
 // what the Rust answers to the same records is beside it, in `stdout` for the fixed sample.
 mod calls;
+mod cemi_calls;
 mod connect_calls;
 mod frame_calls;
 mod lines;
