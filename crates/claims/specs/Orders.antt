@@ -4,7 +4,7 @@ use mathlib.Core.Path.{_≡_, refl}
 use mathlib.Core.List.{List, [], _∷_}
 use lib.ListN.{replicate}
 use Rattle.wire.specs.Told.{done, viewed}
-use Rattle.wire.specs.Written.{tells, room}
+use Rattle.wire.specs.Written.{tells}
 use Rattle.constants.specs.declared.ServiceType.the-variants.{TunnellingAck}
 use Rattle.header.specs.Header as Header
 use Rattle.hpai.specs.Hpai as Hpai
@@ -50,7 +50,8 @@ pub record Order : Type 0 where
   pub short-before-endpoint : ConnectRes.parseBy01 (replicate 13 0) .number ≡ 1
   pub endpoint-length : ConnectRes.parseBy01 (replicate 14 0) .number ≡ 2
   -- the sizes: 26, 16, 16, 11 bytes, and one less is 1
-  pub connect-26 : (m : ℕ) → ConnectReq.buildChecks m ≡ room 26 m ∷ []
+  pub connect-25 : tells (ConnectReq.buildChecks 25) [] .number ≡ 1
+  pub connect-26 : tells (ConnectReq.buildChecks 26) [] .number ≡ 0
   pub request-15 : tells (Channel.requestChecks 15) [] .number ≡ 1
   pub request-16 : tells (Channel.requestChecks 16) [] .number ≡ 0
   pub ack-10 : tells (Ack.buildChecks 10) [] .number ≡ 1
@@ -82,7 +83,8 @@ orders = record {
   refused-connection = refl;
   short-before-endpoint = refl;
   endpoint-length = refl;
-  connect-26 = λ m. refl;
+  connect-25 = refl;
+  connect-26 = refl;
   request-15 = refl;
   request-16 = refl;
   ack-10 = refl;

@@ -1,3 +1,4 @@
+-- After i turns the first i bytes are pasted; what is left of src falls. Assumes nothing.
 use Prim.Native.Nat.{_≤_, _-_}
 use mathlib.Core.Path.{_≡_, refl, ap, _∙_}
 use native.Mathlib.Omega.{arith}
