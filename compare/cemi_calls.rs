@@ -1,8 +1,12 @@
-// The compared calls of cemi.rs and of the stand-in's codes; their rows are in calls.rs.
+// The compared calls of cemi.rs, of the stand-in's codes and of 01's L_Data builder; their rows
+// are in calls.rs.
 
-use crate::calls::{u16_at, Said};
+use crate::calls::{place, said, u16_at, Said};
 use crate::error::KnxError;
-use crate::protocol::cemi::{extract_6bit_value, Apci, ControlField1, ControlField2, Tpci};
+use crate::ldata_builder::LDataBuilder;
+use crate::protocol::cemi::{
+    extract_6bit_value, Apci, CEMIFrame, ControlField1, ControlField2, LDataFrame, Tpci,
+};
 use crate::protocol::constants::{CEMIMessageCode, Priority};
 
 fn only(value: u8) -> Said {
@@ -14,7 +18,7 @@ fn only(value: u8) -> Said {
 pub fn message_code_from(args: &[u8], _: &mut [u8]) -> Said {
     let code = CEMIMessageCode::from_u8(*args.first()?);
     let known = code.ok_or_else(KnxError::invalid_message_code);
-    Some(known.map(|code| vec![code.to_u8().into()]))
+    said(known.map(|code| vec![code.to_u8().into()]))
 }
 
 pub fn priority_from(args: &[u8], _: &mut [u8]) -> Said {
@@ -67,15 +71,31 @@ pub fn control2_default(_: &[u8], _: &mut [u8]) -> Said {
 
 // TPCI and APCI
 
+/// The kind's number, and the sequence, 0 where the packet has none.
+fn tpci_values(tpci: Tpci) -> [usize; 2] {
+    match tpci {
+        Tpci::UnnumberedData => [0, 0],
+        Tpci::NumberedData { sequence } => [1, sequence.into()],
+        Tpci::UnnumberedControl => [2, 0],
+        Tpci::NumberedControl { sequence } => [3, sequence.into()],
+    }
+}
+
+/// The sequence of an unnumbered packet is ignored: it has none.
+fn tpci_of(kind: u8, sequence: u8) -> Option<Tpci> {
+    match kind {
+        0 => Some(Tpci::UnnumberedData),
+        1 => Some(Tpci::NumberedData { sequence }),
+        2 => Some(Tpci::UnnumberedControl),
+        3 => Some(Tpci::NumberedControl { sequence }),
+        _ => None,
+    }
+}
+
 pub fn tpci_from(args: &[u8], _: &mut [u8]) -> Said {
     let tpci = Tpci::from_byte(*args.first()?);
-    let (kind, sequence) = match tpci {
-        Tpci::UnnumberedData => (0, 0),
-        Tpci::NumberedData { sequence } => (1, sequence),
-        Tpci::UnnumberedControl => (2, 0),
-        Tpci::NumberedControl { sequence } => (3, sequence),
-    };
-    Some(Ok(vec![kind, sequence.into(), tpci.is_data().into()]))
+    let [kind, sequence] = tpci_values(tpci);
+    Some(Ok(vec![kind, sequence, tpci.is_data().into()]))
 }
 
 /// The code, and whether the service has no name.
@@ -93,4 +113,88 @@ pub fn apci_unknown(args: &[u8], _: &mut [u8]) -> Said {
 
 pub fn six_bits(args: &[u8], _: &mut [u8]) -> Said {
     only(extract_6bit_value(*args.first()?))
+}
+
+// LDataFrame
+
+/// The nine fields, then the place of the data in the whole input.
+fn ldata_values(frame: &LDataFrame, whole: &[u8]) -> Vec<usize> {
+    let mut values = vec![
+        frame.ctrl1.raw().into(),
+        frame.ctrl2.raw().into(),
+        frame.source.raw().into(),
+        frame.destination_raw.into(),
+        frame.npdu_length.into(),
+    ];
+    values.extend(tpci_values(frame.tpci));
+    values.extend(apci_values(frame.apci));
+    values.extend(place(frame.data, whole));
+    values
+}
+
+/// 0 where there is no such address, else 1 + address.
+fn address_value(address: Option<u16>) -> usize {
+    address.map_or(0, |address| 1 + usize::from(address))
+}
+
+pub fn ldata_parse(args: &[u8], _: &mut [u8]) -> Said {
+    said(LDataFrame::parse(args).map(|frame| {
+        let mut values = ldata_values(&frame, args);
+        values.push(address_value(frame.destination_group().map(|group| group.raw())));
+        values.push(address_value(frame.destination_individual().map(|device| device.raw())));
+        values.push(frame.is_group_write().into());
+        values.push(frame.is_group_read().into());
+        values.push(frame.is_group_response().into());
+        values
+    }))
+}
+
+/// The builder's answer; what it wrote is confirmed by the Rust's parse.
+pub fn ldata_build(args: &[u8], buf: &mut [u8]) -> Said {
+    let builder = LDataBuilder {
+        ctrl1: *args.first()?,
+        ctrl2: *args.get(1)?,
+        source: u16_at(args, 2)?,
+        destination: u16_at(args, 4)?,
+        tpci: tpci_of(*args.get(6)?, *args.get(7)?)?,
+        apci: u16_at(args, 8)?,
+        six_bits: *args.get(10)?,
+        data: &args[11..],
+    };
+    Some(builder.build(buf).map(|count| {
+        builder.confirm(&buf[..count]);
+        vec![count]
+    }))
+}
+
+// CEMIFrame
+
+pub fn frame_parse(args: &[u8], _: &mut [u8]) -> Said {
+    said(CEMIFrame::parse(args).map(|frame| {
+        vec![
+            frame.message_code().to_u8().into(),
+            frame.additional_info_length().into(),
+            frame.is_ldata().into(),
+        ]
+    }))
+}
+
+pub fn frame_service_info(args: &[u8], _: &mut [u8]) -> Said {
+    said(CEMIFrame::parse(args).and_then(|frame| Ok(place(frame.service_info()?, args).into())))
+}
+
+pub fn frame_as_ldata(args: &[u8], _: &mut [u8]) -> Said {
+    said(CEMIFrame::parse(args).and_then(|frame| Ok(ldata_values(&frame.as_ldata()?, args))))
+}
+
+/// The frame's public code is set by hand before it is read.
+pub fn frame_as_ldata_by(args: &[u8], _: &mut [u8]) -> Said {
+    let (&code, input) = args.split_first()?;
+    let code = CEMIMessageCode::from_u8(code)?;
+    said(CEMIFrame::parse(input).and_then(|mut frame| {
+        frame.message_code = code;
+        let mut values = vec![frame.is_ldata().into()];
+        values.extend(ldata_values(&frame.as_ldata()?, input));
+        Ok(values)
+    }))
 }

@@ -1,4 +1,5 @@
-// Crate root of the oracle: the published files, the stand-in, and the compared calls.
+// Crate root of the oracle: the published files, the stand-in, the compared calls, and the
+// L_Data builder of document 01.
 //
 // compare/build lays this file and its modules out in target/compare/oracle/src and compiles
 // them twice, as knx_release and as knx_checked. The calls are part of this crate, not of the
@@ -8,6 +9,7 @@ pub mod addressing;
 pub mod calls;
 pub mod error;
 mod cemi_calls;
+mod ldata_builder;
 mod services_calls;
 
 pub mod protocol {

@@ -1,6 +1,6 @@
 // The compared calls of services.rs; their rows are in calls.rs.
 
-use crate::calls::{count, hpai_of, hpai_values, place, Said};
+use crate::calls::{count, hpai_of, hpai_values, place, said, Said};
 use crate::protocol::services::{
     ConnectRequest, ConnectResponse, ConnectionHeader, ConnectionRequestInfo,
     ConnectionStateRequest, ConnectionStateResponse, DisconnectRequest, DisconnectResponse,
@@ -26,7 +26,7 @@ pub fn cri_encode(args: &[u8], buf: &mut [u8]) -> Said {
 }
 
 pub fn cri_decode(args: &[u8], _: &mut [u8]) -> Said {
-    Some(ConnectionRequestInfo::decode(args).map(|cri| cri_values(&cri)))
+    said(ConnectionRequestInfo::decode(args).map(|cri| cri_values(&cri)))
 }
 
 // ConnectRequest and ConnectResponse
@@ -45,7 +45,7 @@ pub fn connect_build(args: &[u8], buf: &mut [u8]) -> Said {
 }
 
 pub fn connect_response_parse(args: &[u8], _: &mut [u8]) -> Said {
-    Some(ConnectResponse::parse(args).map(|response| {
+    said(ConnectResponse::parse(args).map(|response| {
         let mut values = vec![response.channel_id.into(), response.status.into()];
         values.extend(hpai_values(&response.data_endpoint));
         values.extend(response.crd.map(usize::from));
@@ -62,7 +62,7 @@ pub fn state_request_build(args: &[u8], buf: &mut [u8]) -> Said {
 }
 
 pub fn state_response_parse(args: &[u8], _: &mut [u8]) -> Said {
-    Some(ConnectionStateResponse::parse(args).map(|response| {
+    said(ConnectionStateResponse::parse(args).map(|response| {
         vec![response.channel_id.into(), response.status.into(), response.is_ok().into()]
     }))
 }
@@ -73,7 +73,7 @@ pub fn disconnect_request_build(args: &[u8], buf: &mut [u8]) -> Said {
 }
 
 pub fn disconnect_response_parse(args: &[u8], _: &mut [u8]) -> Said {
-    Some(DisconnectResponse::parse(args).map(|response| {
+    said(DisconnectResponse::parse(args).map(|response| {
         vec![response.channel_id.into(), response.status.into(), response.is_ok().into()]
     }))
 }
@@ -93,7 +93,7 @@ pub fn connection_header_encode(args: &[u8], buf: &mut [u8]) -> Said {
 }
 
 pub fn connection_header_decode(args: &[u8], _: &mut [u8]) -> Said {
-    Some(ConnectionHeader::decode(args).map(|header| connection_header_values(&header)))
+    said(ConnectionHeader::decode(args).map(|header| connection_header_values(&header)))
 }
 
 // TunnelingRequest and TunnelingAck
@@ -103,7 +103,7 @@ pub fn tunneling_request_build(args: &[u8], buf: &mut [u8]) -> Said {
 }
 
 pub fn tunneling_request_parse(args: &[u8], _: &mut [u8]) -> Said {
-    Some(TunnelingRequest::parse(args).map(|request| {
+    said(TunnelingRequest::parse(args).map(|request| {
         let mut values = connection_header_values(&request.connection_header);
         values.extend(place(request.cemi_data, args));
         values
@@ -115,7 +115,7 @@ pub fn tunneling_ack_build(args: &[u8], buf: &mut [u8]) -> Said {
 }
 
 pub fn tunneling_ack_parse(args: &[u8], _: &mut [u8]) -> Said {
-    Some(TunnelingAck::parse(args).map(|ack| {
+    said(TunnelingAck::parse(args).map(|ack| {
         let mut values = connection_header_values(&ack.connection_header);
         values.push(ack.status.into());
         values.push(ack.is_ok().into());

@@ -1,7 +1,7 @@
 -- Demand 1: a number other than 0 is one of 1 to 13, comes with zeros and an empty view, and changes no lent byte. One line for each public function that can refuse, over the promise that its contract names. That nothing faults, wraps or hangs is the gate's verdict on functions without a `requires`.
-use Prim.Native.Nat.{ℕ}
+use Prim.Native.Nat.{ℕ, _+_}
 use mathlib.Core.Path.{_≡_, refl, _∙_}
-use mathlib.Core.List.{List, [], _∷_}
+use mathlib.Core.List.{List, [], _∷_, _++_}
 use lib.ListN.{length}
 use Rattle.wire.specs.Told.{done, viewed, verdict}
 use Rattle.wire.specs.Layout.{get}
@@ -21,6 +21,17 @@ use Rattle.constants.specs.MessageCodes as MessageCodes
 use Rattle.constants.specs.declared.message_code.CEMIMessageCodeAnswer.{CEMIMessageCodeAnswer}
 use Rattle.constants.specs.declared.ServiceType.{ServiceType}
 use Rattle.constants.specs.declared.ServiceAnswer.{ServiceAnswer}
+use Rattle.pci.specs.Transport.{isData}
+use Rattle.ldata.specs.Count.{startOf, crateCount}
+use Rattle.ldata.specs.LData as LData
+use Rattle.ldata.specs.Builder as LDataBuilder
+use Rattle.ldata.specs.declared.fields.LDataFields.{LDataFields}
+use Rattle.ldata.specs.declared.fields.LDataAnswer.{LDataAnswer}
+use Rattle.ldata.specs.declared.builder.LDataBuilder.{LDataBuilder}
+use Rattle.cemi.specs.Cemi as Cemi
+use Rattle.cemi.specs.declared.CEMIFrame.{CEMIFrame}
+use Rattle.cemi.specs.declared.CEMIAnswer.{CEMIAnswer}
+use Rattle.cemi.specs.declared.InfoLengthAnswer.{InfoLengthAnswer}
 use Rattle.header.specs.Header as Header
 use Rattle.header.specs.declared.KnxnetIpHeader.{KnxnetIpHeader}
 use Rattle.header.specs.declared.HeaderAnswer.{HeaderAnswer}
@@ -65,6 +76,41 @@ service-from code r = judged-refusing (serviceCheck code ∷ []) (done (code ∷
 
 pub message-code-from : (n : ℕ) (r : CEMIMessageCodeAnswer) → MessageCodes.FromPromise n r → Refusing (MessageCodes.told r)
 message-code-from n r = judged-refusing (check MessageCodes.messageCodes n ∷ []) (done (n ∷ [])) (MessageCodes.told r) refl
+
+-- ---- ldata
+
+pub ldata-parse : (s : List ℕ) (r : LDataAnswer) → LData.ParsePromise s r → Refusing (LData.told r)
+ldata-parse s r = judged-refusing (LData.byteChecks crateCount s) (done (LData.held s)) (LData.told r) refl
+
+pub ldata-data : (f : LDataFields) (s : List ℕ) (r : View) → LData.DataPromise f s r → Refusing (Parts.told r)
+ldata-data f s r =
+    judged-refusing (LData.recordChecks crateCount f (length s)) (viewed (startOf (isData (f .tpci))) (crateCount .endOf (f .«npdu_length»))) (Parts.told r) refl
+
+pub ldata-data-part : (f : LDataFields) (s r : List ℕ) (e : Refusal) → LData.DataPartPromise f s r → verdict (LData.recordChecks crateCount f (length s)) ≡ Refuse e → r ≡ []
+ldata-data-part f s r e p q =
+    p ∙ shown-refused (LData.recordChecks crateCount f (length s)) (viewed (startOf (isData (f .tpci))) (crateCount .endOf (f .«npdu_length»))) e s q
+
+pub ldata-build : (b : LDataBuilder) (d buf : List ℕ) (r : Written) (after : List ℕ)
+    → LDataBuilder.BuildPromise b d buf r after → Refusing (Written.told r) × Leaves (Written.told r) buf after
+ldata-build b d buf = writes-refusing (LDataBuilder.checks b (length d) (length buf)) (LDataBuilder.layout b (length d + 2) d) buf
+
+-- ---- cemi
+
+pub cemi-parse : (s : List ℕ) (r : CEMIAnswer) → Cemi.ParsePromise s r → Refusing (Cemi.told r)
+cemi-parse s r = judged-refusing (Cemi.checks s) (done (Cemi.codeIn s ∷ [])) (Cemi.told r) refl
+
+pub cemi-info-length : (s : List ℕ) (r : InfoLengthAnswer) → Cemi.InfoLengthPromise s r → Refusing (Cemi.toldLength r)
+cemi-info-length s r = judged-refusing (Cemi.checks s) (done (Cemi.infoLength s ∷ [])) (Cemi.toldLength r) refl
+
+pub cemi-service-info : (s : List ℕ) (r : View) → Cemi.ServiceInfoPromise s r → Refusing (Parts.told r)
+cemi-service-info s r = judged-refusing (Cemi.checks s ++ Cemi.infoCheck s ∷ []) (viewed (2 + Cemi.infoLength s) (length s)) (Parts.told r) refl
+
+pub cemi-service-info-part : (s r : List ℕ) (e : Refusal) → Cemi.ServiceInfoPartPromise s r → verdict (Cemi.checks s ++ Cemi.infoCheck s ∷ []) ≡ Refuse e → r ≡ []
+cemi-service-info-part s r e p q = p ∙ shown-refused (Cemi.checks s ++ Cemi.infoCheck s ∷ []) (viewed (2 + Cemi.infoLength s) (length s)) e s q
+
+pub cemi-as-ldata : (f : CEMIFrame) (s : List ℕ) (r : LDataAnswer) → Cemi.AsLDataPromise f s r → Refusing (LData.told r)
+cemi-as-ldata f s r =
+    judged-refusing (Cemi.checks s ++ Cemi.ldataChecks f s ++ LData.byteChecks crateCount (Cemi.serviceInfo s)) (done (LData.held (Cemi.serviceInfo s))) (LData.told r) refl
 
 -- ---- header
 

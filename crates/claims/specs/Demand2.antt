@@ -1,5 +1,6 @@
 -- Demand 2 as predicates over any parser and any builder, and that ours have them. A parser is what it tells of each byte string; a builder is what it tells and what its buffer holds afterwards.
 use Prim.Native.Nat.{ℕ, _+_, _≤_}
+use native.Mathlib.Omega.{arith}
 use mathlib.Core.Path.{_≡_}
 use mathlib.Core.List.{List, [], _∷_, _++_}
 use lib.ListN.{length, take, drop, getD}
@@ -17,7 +18,7 @@ use Rattle.constants.specs.declared.message_code.CEMIMessageCodeAnswer.the-vari
 use Rattle.constants.specs.declared.ServiceType.{ServiceType}
 use Rattle.constants.specs.declared.ServiceAnswer.{ServiceAnswer}
 use Rattle.constants.specs.declared.ServiceAnswer.the-variants as S
-use mathlib.Core.Bool.{Bool, true}
+use mathlib.Core.Bool.{Bool, true, false}
 use Rattle.constants.specs.declared.priorities.Priority.{Priority}
 use Rattle.control.specs.First as First
 use Rattle.control.specs.Second as Second
@@ -25,6 +26,19 @@ use Rattle.control.specs.FieldLaws as FieldLaws
 use Rattle.pci.specs.Application as Application
 use Rattle.pci.specs.PciLaws as PciLaws
 use Rattle.pci.specs.declared.application.Apci.the-variants as P
+use Rattle.ldata.specs.Count.{crateCount}
+use Rattle.ldata.specs.LData as LData
+use Rattle.ldata.specs.LDataLaws as LDataLaws
+use Rattle.ldata.specs.Builder as LDataBuilder
+use Rattle.ldata.specs.RoundTrip as LDataTrip
+use Rattle.ldata.specs.declared.fields.LDataFields.{LDataFields}
+use Rattle.ldata.specs.declared.fields.LDataAnswer.{LDataAnswer}
+use Rattle.ldata.specs.declared.fields.LDataAnswer.the-variants as L
+use Rattle.ldata.specs.declared.builder.LDataBuilder.{LDataBuilder}
+use Rattle.cemi.specs.Cemi as Cemi
+use Rattle.cemi.specs.CemiLaws as CemiLaws
+use Rattle.cemi.specs.declared.CEMIFrame.{CEMIFrame}
+use Rattle.cemi.specs.declared.CEMIAnswer.the-variants as E
 use Rattle.header.specs.Header as Header
 use Rattle.header.specs.HeaderLaws as HeaderLaws
 use Rattle.header.specs.declared.KnxnetIpHeader.{KnxnetIpHeader}
@@ -241,3 +255,32 @@ apci-code-back = PciLaws.code-back
 
 pub apci-never-unknown : (n m : ℕ) → Application.apciOf n ≡ P.Unknown m → noneOf n PciLaws.named ≡ true
 apci-never-unknown = PciLaws.never-unknown
+
+-- ---- cemi.rs: cEMI and L_Data
+
+-- what is accepted starts with the layout of the record, and its values are those that stand in the bytes
+pub cemi-has-layout : (s : List ℕ) (f : CEMIFrame) → Bytes s → Cemi.ParsePromise s (E.Frame f)
+    → take 2 s ≡ put Cemi.fields (MessageCodes.codeOf (f .«message_code») ∷ Cemi.infoLength s ∷ [])
+cemi-has-layout = CemiLaws.has-layout
+
+pub ldata-has-layout : (s : List ℕ) (f : LDataFields) → Bytes s → LData.ParsePromise s (L.Frame f)
+    → take 8 s ≡ put LData.fields (f .ctrl1 .raw ∷ f .ctrl2 .raw ∷ f .source .0 ∷ f .«destination_raw» ∷ f .«npdu_length» ∷ getD s 7 0 ∷ [])
+ldata-has-layout s f b p = LDataLaws.has-layout crateCount s f p b (omega arith)
+
+pub ldata-reads : (s : List ℕ) (f : LDataFields) → LData.ParsePromise s (L.Frame f) → LData.values f ≡ LData.held s
+ldata-reads = LDataLaws.read crateCount
+
+-- a control packet is never a group read, although its code is a group read's
+pub control-never-reads : (s : List ℕ) (f : LDataFields) (r : Bool) → LData.ParsePromise s (L.Frame f) → LData.dataByte (getD s 7 0) ≡ false → LData.IsServicePromise 0x000 f r → r ≡ false
+control-never-reads = LDataLaws.control-never
+
+-- ---- the L_Data builder, with no premise but that it answered
+
+pub ldata-build-parse : (b : LDataBuilder) (d buf : List ℕ) (n : ℕ) (after : List ℕ) (r : LDataAnswer)
+    → LDataBuilder.BuildPromise b d buf (W.Bytes n) after → LData.ParsePromise after r → r ≡ L.Frame (LDataTrip.built b (length d + 2))
+ldata-build-parse = LDataTrip.parsed
+
+pub ldata-round-trip : (b : LDataBuilder) (d buf : List ℕ) (n : ℕ) (after : List ℕ) (f : LDataFields) (part : List ℕ) (six : ℕ)
+    → LDataBuilder.BuildPromise b d buf (W.Bytes n) after → LData.ParsePromise after (L.Frame f) → LData.DataPartPromise f after part
+    → Application.SixBitPromise (getD after 8 0) six → LDataTrip.Back b d n f part six
+ldata-round-trip = LDataTrip.round-trip

@@ -1,11 +1,19 @@
 -- 01's orders of checks and its "errors to expect", as rows: where two checks are broken, the earlier one decides.
 use Prim.Native.Nat.{ℕ}
 use mathlib.Core.Path.{_≡_, refl}
-use mathlib.Core.List.{List, [], _∷_}
+use mathlib.Core.List.{List, [], _∷_, _++_}
 use lib.ListN.{replicate}
 use Rattle.wire.specs.Told.{done, viewed}
 use Rattle.wire.specs.Written.{tells}
 use Rattle.constants.specs.declared.ServiceType.the-variants.{TunnellingAck}
+use Rattle.constants.specs.declared.message_code.CEMIMessageCode.{CEMIMessageCode}
+use Rattle.constants.specs.declared.message_code.CEMIMessageCode.the-variants.{LDataInd, LRawInd}
+use Rattle.pci.specs.declared.transport.Tpci.{Tpci}
+use Rattle.pci.specs.declared.transport.Tpci.the-variants.{UnnumberedData, NumberedData, UnnumberedControl}
+use Rattle.ldata.specs.Count.{crateCount}
+use Rattle.ldata.specs.LData as LData
+use Rattle.ldata.specs.Builder as LDataBuilder
+use Rattle.cemi.specs.Cemi as Cemi
 use Rattle.header.specs.Header as Header
 use Rattle.hpai.specs.Hpai as Hpai
 use Rattle.connect.specs.Cri as Cri
@@ -25,6 +33,30 @@ built01 n m = tells (Builder.checks n m) (replicate n 0) .number
 -- an acknowledgement's eleven bytes with three more behind them
 abbrev trailed : List ℕ
 trailed = 0x06 ∷ 0x10 ∷ 0x04 ∷ 0x21 ∷ 0x00 ∷ 0x0B ∷ 0x04 ∷ 0x15 ∷ 0x07 ∷ 0x00 ∷ 0x00 ∷ 0xAA ∷ 0xBB ∷ 0xCC ∷ []
+
+-- what the L_Data builder answers for a packet, a six-bit number, n bytes of data and a buffer of m
+abbrev builtLData : Tpci → ℕ → ℕ → ℕ → ℕ → ℕ
+builtLData t code six n m =
+    tells (LDataBuilder.checks (record {
+      ctrl1 = record { raw = 0x94 };
+      ctrl2 = record { raw = 0xE0 };
+      source = record { 0 = 0x1105 };
+      «destination_raw» = 0x0803;
+      tpci = t;
+      «apci_code» = code;
+      «six_bit» = six;
+    }) n m) [] .number
+
+-- an L_Data frame of nine bytes with this L and TPCI
+abbrev nineBytes : ℕ → ℕ → List ℕ
+nineBytes l tpci = 0x94 ∷ 0xE0 ∷ 0x11 ∷ 0x05 ∷ 0x08 ∷ 0x03 ∷ l ∷ tpci ∷ 0x00 ∷ []
+
+abbrev asLData : List ℕ → ℕ
+asLData s = LData.parseBy01 crateCount s .number
+
+-- `as_ldata` of a record with this code
+abbrev inCemi : CEMIMessageCode → List ℕ → ℕ
+inCemi m s = Cemi.asLDataBy01 (record { «message_code» = m }) s .number
 
 pub record Order : Type 0 where
   -- the header: 1 before 2, 2 before 3, 3 before 4
@@ -65,6 +97,32 @@ pub record Order : Type 0 where
   pub request-body-3 : Connection.decodeBy01 (0x04 ∷ 0x15 ∷ 0x07 ∷ []) .number ≡ 1
   pub ack-body-4 : Ack.parseBy01 (0x04 ∷ 0x15 ∷ 0x07 ∷ 0x00 ∷ []) .number ≡ 1
   pub ack-body-5 : Ack.parseBy01 (0x04 ∷ 0x15 ∷ 0x07 ∷ 0x00 ∷ 0x2A ∷ []) ≡ done (0x15 ∷ 0x07 ∷ 0x2A ∷ [])
+  -- cEMI: 1 before 6; `as_ldata`: 6 before 2, then L_Data's 1; the record's code decides, the slice's must be known
+  pub cemi-short-before-code : Cemi.parseBy01 (0xFF ∷ []) .number ≡ 1
+  pub cemi-code : Cemi.parseBy01 (0x13 ∷ 0x00 ∷ []) .number ≡ 6
+  pub code-before-info : inCemi LRawInd (0x2D ∷ 0xFF ∷ []) ≡ 6
+  pub info-alone : inCemi LDataInd (0x29 ∷ 0xFF ∷ []) ≡ 2
+  pub info-before-ldata : inCemi LDataInd (0x29 ∷ 0x00 ∷ replicate 8 0) ≡ 1
+  pub record-decides : inCemi LRawInd (0x29 ∷ 0x00 ∷ nineBytes 2 0x00) ≡ 6
+  pub slice-first : inCemi LRawInd (0x13 ∷ []) ≡ 1
+  -- L_Data: nine bytes for control packets too; data needs L of 2, control packets of 1
+  pub control-of-8 : asLData (0x94 ∷ 0xE0 ∷ 0x11 ∷ 0x05 ∷ 0x08 ∷ 0x03 ∷ 0x00 ∷ 0x80 ∷ []) ≡ 1
+  pub data-L0 : asLData (nineBytes 0 0x00) ≡ 2
+  pub data-L1 : asLData (nineBytes 1 0x00) ≡ 2
+  pub data-L2 : asLData (nineBytes 2 0x00) ≡ 0
+  pub control-L0 : asLData (nineBytes 0 0x80) ≡ 2
+  pub control-L1 : asLData (nineBytes 1 0x80) ≡ 0
+  pub L255-262 : asLData (nineBytes 255 0x00 ++ replicate 253 0) ≡ 0
+  pub L255-261 : asLData (nineBytes 255 0x00 ++ replicate 252 0) ≡ 2
+  -- the L_Data builder: 13 four times, then 5, then 1
+  pub control-13 : builtLData UnnumberedControl 0x080 0 254 0 ≡ 13
+  pub sequence-16 : builtLData (NumberedData 16) 0x080 0 254 0 ≡ 13
+  pub code-above : builtLData UnnumberedData 0x400 0 254 0 ≡ 13
+  pub code-between : builtLData UnnumberedData 0x081 0 254 0 ≡ 13
+  pub six-64 : builtLData UnnumberedData 0x080 64 254 0 ≡ 13
+  pub data-254 : builtLData UnnumberedData 0x080 63 254 0 ≡ 5
+  pub room-261 : builtLData UnnumberedData 0x080 63 253 261 ≡ 1
+  pub room-262 : builtLData (NumberedData 15) 0x3C0 63 253 262 ≡ 0
 
 pub orders : Order
 orders = record {
@@ -96,4 +154,27 @@ orders = record {
   request-body-3 = refl;
   ack-body-4 = refl;
   ack-body-5 = refl;
+  cemi-short-before-code = refl;
+  cemi-code = refl;
+  code-before-info = refl;
+  info-alone = refl;
+  info-before-ldata = refl;
+  record-decides = refl;
+  slice-first = refl;
+  control-of-8 = refl;
+  data-L0 = refl;
+  data-L1 = refl;
+  data-L2 = refl;
+  control-L0 = refl;
+  control-L1 = refl;
+  L255-262 = refl;
+  L255-261 = refl;
+  control-13 = refl;
+  sequence-16 = refl;
+  code-above = refl;
+  code-between = refl;
+  six-64 = refl;
+  data-254 = refl;
+  room-261 = refl;
+  room-262 = refl;
 }

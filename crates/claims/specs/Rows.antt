@@ -1,11 +1,18 @@
--- 01, "Cases on both sides": the P rows of the frame and of APCI, proved together as one table.
+-- 01, "Cases on both sides": the P rows of the frame, of L_Data and of APCI, proved together as one table.
 use Prim.Native.Nat.{ℕ}
 use mathlib.Core.Path.{_≡_, refl}
 use mathlib.Core.List.{List, [], _∷_}
-use Rattle.wire.specs.Told.{viewed}
+use lib.ListN.{getD}
+use Rattle.wire.specs.Told.{Told, viewed}
+use Rattle.wire.specs.Parts.{shown}
 use Rattle.constants.specs.declared.ServiceType.the-variants.{TunnellingRequest}
-use Rattle.pci.specs.Application.{apciOf, codeIn}
-use Rattle.pci.specs.declared.application.Apci.the-variants.{Unknown}
+use Rattle.pci.specs.Application.{apciOf, codeIn, SixBitPromise}
+use Rattle.pci.specs.declared.transport.Tpci.the-variants.{UnnumberedData}
+use Rattle.pci.specs.declared.application.Apci.the-variants.{GroupValueWrite, Unknown}
+use Rattle.ldata.specs.Count.{crateCount}
+use Rattle.ldata.specs.LData as LData
+use Rattle.ldata.specs.declared.fields.LDataFields.{LDataFields}
+use Rattle.ldata.specs.declared.fields.LDataAnswer.the-variants as L
 use Rattle.header.specs.Header as Header
 use Rattle.frame.specs.Frame as Frame
 use Rattle.frame.specs.RoundTrip.{built}
@@ -21,6 +28,28 @@ asHeader s = Header.parseBy01 s .number
 abbrev bare : List ℕ
 bare = 0x06 ∷ 0x10 ∷ 0x04 ∷ 0x20 ∷ 0x00 ∷ 0x06 ∷ []
 
+-- an L_Data frame with this L and what follows it
+abbrev ldata : ℕ → List ℕ → List ℕ
+ldata l rest = 0x94 ∷ 0xE0 ∷ 0x11 ∷ 0x05 ∷ 0x08 ∷ 0x03 ∷ l ∷ rest
+
+-- a group write from 1.1.5 to 1/0/3
+abbrev groupWrite : ℕ → LDataFields
+groupWrite l = record {
+  ctrl1 = record { raw = 0x94 };
+  ctrl2 = record { raw = 0xE0 };
+  source = record { 0 = 0x1105 };
+  «destination_raw» = 0x0803;
+  «npdu_length» = l;
+  tpci = UnnumberedData;
+  apci = GroupValueWrite;
+}
+
+abbrev asLData : List ℕ → Told
+asLData = LData.parseBy01 crateCount
+
+abbrev dataIn : LDataFields → List ℕ → List ℕ
+dataIn f s = shown s (LData.dataBy01 crateCount f s)
+
 pub record P : Type 0 where
   pub empty : asFrame [] ≡ 1
   pub five : (a b c d e : ℕ) → asFrame (a ∷ b ∷ c ∷ d ∷ e ∷ []) ≡ 1
@@ -31,6 +60,13 @@ pub record P : Type 0 where
   pub total-as-header : asHeader (0x06 ∷ 0x10 ∷ 0x04 ∷ 0x20 ∷ 0x00 ∷ 0x05 ∷ []) ≡ 0
   pub bare-frame : Frame.parseBy01 bare ≡ Frame.told (Frame (built TunnellingRequest []))
   pub bare-body : Frame.bodyBy01 (built TunnellingRequest []) bare ≡ viewed 6 6
+  pub write-2A : asLData (ldata 3 (0x00 ∷ 0x80 ∷ 0x2A ∷ [])) ≡ LData.told (L.Frame (groupWrite 3))
+  pub write-2A-data : dataIn (groupWrite 3) (ldata 3 (0x00 ∷ 0x80 ∷ 0x2A ∷ [])) ≡ 0x2A ∷ []
+  pub write-L4 : asLData (ldata 4 (0x00 ∷ 0x80 ∷ 0x2A ∷ [])) .number ≡ 2
+  pub write-L1 : asLData (ldata 1 (0x00 ∷ 0x81 ∷ [])) .number ≡ 2
+  pub write-L2 : asLData (ldata 2 (0x00 ∷ 0x81 ∷ [])) ≡ LData.told (L.Frame (groupWrite 2))
+  pub write-L2-data : dataIn (groupWrite 2) (ldata 2 (0x00 ∷ 0x81 ∷ [])) ≡ []
+  pub write-L2-six : SixBitPromise (getD (ldata 2 (0x00 ∷ 0x81 ∷ [])) 8 0) 1
   pub apci-02-C0 : apciOf (codeIn 0x02 0xC0) ≡ Unknown 0x2C0
 
 pub rows : P
@@ -44,5 +80,12 @@ rows = record {
   total-as-header = refl;
   bare-frame = refl;
   bare-body = refl;
+  write-2A = refl;
+  write-2A-data = refl;
+  write-L4 = refl;
+  write-L1 = refl;
+  write-L2 = refl;
+  write-L2-data = refl;
+  write-L2-six = refl;
   apci-02-C0 = refl;
 }

@@ -26,6 +26,12 @@ use Rattle.control.specs.declared.second.ControlField2.{ControlField2}
 use Rattle.pci.specs.Transport as Transport
 use Rattle.pci.specs.Application as Application
 use Rattle.pci.specs.PciLaws as PciLaws
+use Rattle.ldata.specs.LData as LData
+use Rattle.ldata.specs.LDataLaws as LDataLaws
+use Rattle.ldata.specs.Builder as LDataBuilder
+use Rattle.ldata.specs.BuilderLaws as LDataBuilderLaws
+use Rattle.cemi.specs.Cemi as Cemi
+use Rattle.cemi.specs.CemiLaws as CemiLaws
 use Rattle.header.specs.Header as Header
 use Rattle.header.specs.HeaderLaws as HeaderLaws
 use Rattle.frame.specs.Frame as Frame
@@ -248,6 +254,14 @@ tpci-from-byte = PciLaws.from-byte-one
 pub tpci-is-data : One Transport.IsDataPromise
 tpci-is-data t r q = same
 
+-- pci::Tpci::sequence
+pub tpci-sequence : One Transport.SequencePromise
+tpci-sequence t r q = same
+
+-- pci::Tpci::to_byte
+pub tpci-to-byte : One Transport.ToPromise
+tpci-to-byte t r q = same
+
 -- pci::Apci::from_bytes
 pub apci-from-bytes : One₂ Application.FromPromise
 apci-from-bytes first second r q = same
@@ -256,9 +270,81 @@ apci-from-bytes first second r q = same
 pub apci-to : One Application.ToPromise
 apci-to a r q = same
 
+-- pci::Apci::is_named
+pub apci-is-named : One₂ Application.IsNamedPromise
+apci-is-named a code r q = same
+
 -- pci::extract_6bit_value
 pub six-bit-value : One Application.SixBitPromise
 six-bit-value byte r q = same
+
+-- ---- ldata
+
+-- ldata::LDataFields::parse
+pub ldata-parse : One LData.ParsePromise
+ldata-parse = LDataLaws.parse-one
+
+-- ldata::LDataFields::data
+pub ldata-data : One₂ LData.DataPromise
+ldata-data = LDataLaws.data-one
+
+-- ldata::LDataFields::data_part
+pub ldata-data-part : One₂ LData.DataPartPromise
+ldata-data-part f s r q = same
+
+-- ldata::LDataFields::destination_group
+pub ldata-destination-group : One LData.DestinationGroupPromise
+ldata-destination-group = LDataLaws.destination-group-one
+
+-- ldata::LDataFields::destination_individual
+pub ldata-destination-individual : One LData.DestinationIndividualPromise
+ldata-destination-individual = LDataLaws.destination-individual-one
+
+-- ldata::LDataFields::is_group_write
+pub ldata-is-group-write : One (LData.IsServicePromise 0x080)
+ldata-is-group-write f r q = same
+
+-- ldata::LDataFields::is_group_read
+pub ldata-is-group-read : One (LData.IsServicePromise 0x000)
+ldata-is-group-read f r q = same
+
+-- ldata::LDataFields::is_group_response
+pub ldata-is-group-response : One (LData.IsServicePromise 0x040)
+ldata-is-group-response f r q = same
+
+-- ldata::LDataBuilder::build
+pub ldata-build : Lent₂ LDataBuilder.BuildPromise
+ldata-build = LDataBuilderLaws.build-one
+
+-- ---- cemi
+
+-- cemi::CEMIFrame::parse
+pub cemi-parse : One Cemi.ParsePromise
+cemi-parse = CemiLaws.parse-one
+
+-- cemi::CEMIFrame::message_code
+pub cemi-message-code : One Cemi.MessageCodePromise
+cemi-message-code f r q = same
+
+-- cemi::CEMIFrame::additional_info_length
+pub cemi-info-length : One Cemi.InfoLengthPromise
+cemi-info-length = CemiLaws.info-length-one
+
+-- cemi::CEMIFrame::service_info
+pub cemi-service-info : One Cemi.ServiceInfoPromise
+cemi-service-info = CemiLaws.service-info-one
+
+-- cemi::CEMIFrame::service_info_part
+pub cemi-service-info-part : One Cemi.ServiceInfoPartPromise
+cemi-service-info-part s r q = same
+
+-- cemi::CEMIFrame::as_ldata
+pub cemi-as-ldata : One₂ Cemi.AsLDataPromise
+cemi-as-ldata = CemiLaws.as-ldata-one
+
+-- cemi::CEMIFrame::is_ldata
+pub cemi-is-ldata : One Cemi.IsLDataPromise
+cemi-is-ldata f r q = same
 
 -- ---- header
 

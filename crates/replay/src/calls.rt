@@ -2,6 +2,7 @@
 use crate::cemi_calls;
 use crate::connect_calls;
 use crate::frame_calls;
+use crate::ldata_calls;
 use crate::lines;
 use crate::lines::Told;
 use crate::tunnel_calls;
@@ -69,11 +70,11 @@ fn tunnel_answer(call: u8, args: &[u8], buf: &mut [u8]) -> Told {
         25 => tunnel_calls::request_parse(args),
         26 => tunnel_calls::ack_build(args, buf),
         27 => tunnel_calls::ack_parse(args),
-        _ => cemi_answer(call, args),
+        _ => cemi_answer(call, args, buf),
     }
 }
 
-fn cemi_answer(call: u8, args: &[u8]) -> Told {
+fn cemi_answer(call: u8, args: &[u8], buf: &mut [u8]) -> Told {
     match call {
         28 => cemi_calls::message_code_from(args),
         29 => cemi_calls::priority_from(args),
@@ -87,6 +88,18 @@ fn cemi_answer(call: u8, args: &[u8]) -> Told {
         37 => cemi_calls::apci_from(args),
         38 => cemi_calls::apci_unknown(args),
         39 => cemi_calls::six_bits(args),
+        _ => ldata_answer(call, args, buf),
+    }
+}
+
+fn ldata_answer(call: u8, args: &[u8], buf: &mut [u8]) -> Told {
+    match call {
+        40 => ldata_calls::ldata_parse(args),
+        41 => ldata_calls::cemi_parse(args),
+        42 => ldata_calls::service_info(args),
+        43 => ldata_calls::as_ldata(args),
+        44 => ldata_calls::as_ldata_set(args),
+        45 => ldata_calls::ldata_build(args, buf),
         _ => lines::done(0),
     }
 }

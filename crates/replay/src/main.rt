@@ -4,6 +4,7 @@ mod calls;
 mod cemi_calls;
 mod connect_calls;
 mod frame_calls;
+mod ldata_calls;
 mod lines;
 mod tunnel_calls;
 

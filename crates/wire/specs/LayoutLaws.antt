@@ -136,6 +136,10 @@ get-put (run n ∷ fs) vs pre rest at e q =
 pub paste-front : (b w : List ℕ) → paste b 0 w (length w) ≡ w ++ drop (length w) b
 paste-front b w = rw (take-length w, zero-add (length w))
 
+-- what is copied to the start is written there
+pub copied-front : (w b : List ℕ) → length w ≤ length b → copied w b 0 ≡ onto b w
+copied-front w b h = simp (le-leb (length w) (length b) h, zero-add (length w))
+
 -- what is copied right behind what was written is written with it
 pub copied-behind : (w src b : List ℕ) (at : ℕ) → length w ≡ at → at + length src ≤ length b → copied src (onto b w) at ≡ onto b (w ++ src)
 copied-behind w src b at e h =

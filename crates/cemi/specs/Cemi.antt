@@ -1,0 +1,108 @@
+-- 01, "cEMI": message code, additional length, the additional information, and what the code says the rest is. Assumes nothing.
+use Prim.Native.Nat.{ℕ, _+_}
+use mathlib.Core.Path.{_≡_}
+use mathlib.Core.Bool.{Bool, true, false, not}
+use mathlib.Core.List.{List, [], _∷_, _++_}
+use lib.ListN.{length, getD}
+use lib.Dec.{ltb}
+use Rattle.wire.specs.Told.{Told, done, viewed, refused, Check, _⇒_, verdict, judged}
+use Rattle.wire.specs.Coding.{check}
+use Rattle.wire.specs.Layout.{Field, byte, size, get}
+use Rattle.wire.specs.Parts.{partOf, shown}
+use Rattle.wire.specs.Parts as Parts
+use Rattle.wire.specs.declared.refusals.Refusal.the-variants.{BufferTooSmall, InvalidFrame, InvalidMessageCode}
+use Rattle.wire.specs.declared.refusals.Verdict.{Verdict}
+use Rattle.wire.specs.declared.parts.View.{View}
+use Rattle.constants.specs.MessageCodes.{messageCodes, codeOf}
+use Rattle.constants.specs.declared.message_code.CEMIMessageCode.{CEMIMessageCode}
+use Rattle.constants.specs.declared.message_code.CEMIMessageCode.the-variants.{LDataReq, LDataInd, LDataCon, LRawReq, LRawInd, LRawCon, LBusmonInd}
+use Rattle.ldata.specs.Count.{crateCount}
+use Rattle.ldata.specs.LData.{held, byteChecks}
+use Rattle.ldata.specs.LData as LData
+use Rattle.ldata.specs.declared.fields.LDataAnswer.{LDataAnswer}
+use Rattle.cemi.specs.declared.CEMIFrame.{CEMIFrame}
+use Rattle.cemi.specs.declared.CEMIAnswer.{CEMIAnswer}
+use Rattle.cemi.specs.declared.CEMIAnswer.the-variants as C
+use Rattle.cemi.specs.declared.InfoLengthAnswer.{InfoLengthAnswer}
+use Rattle.cemi.specs.declared.InfoLengthAnswer.the-variants as I
+
+-- message code, and the length of the additional information
+abbrev pub fields : List Field
+fields = byte ∷ byte ∷ []
+
+abbrev pub codeIn : List ℕ → ℕ
+codeIn s = getD (get fields 0 s) 0 0
+
+abbrev pub infoLength : List ℕ → ℕ
+infoLength s = getD (get fields 0 s) 1 0
+
+-- fewer than 2 bytes (1), unknown message code (6)
+abbrev pub checks : List ℕ → List Check
+checks s = ltb (length s) (size fields) ⇒ BufferTooSmall ∷ check messageCodes (codeIn s) ∷ []
+
+abbrev pub StandsPromise : List ℕ → Verdict → Type 0
+StandsPromise s r = r ≡ verdict (checks s)
+
+abbrev pub told : CEMIAnswer → Told
+told (C.Frame f) = done (codeOf (f .«message_code») ∷ [])
+told (C.Refused e) = refused 1 e
+
+abbrev pub parseBy01 : List ℕ → Told
+parseBy01 s = judged (checks s) (done (codeIn s ∷ []))
+
+abbrev pub ParsePromise : List ℕ → CEMIAnswer → Type 0
+ParsePromise s r = told r ≡ parseBy01 s
+
+abbrev pub MessageCodePromise : CEMIFrame → CEMIMessageCode → Type 0
+MessageCodePromise f r = r ≡ f .«message_code»
+
+-- ---- accessors that read through the slice repeat those checks, on the slice's own bytes
+
+abbrev pub toldLength : InfoLengthAnswer → Told
+toldLength (I.Length n) = done (n ∷ [])
+toldLength (I.Refused e) = refused 1 e
+
+abbrev pub InfoLengthPromise : List ℕ → InfoLengthAnswer → Type 0
+InfoLengthPromise s r = toldLength r ≡ judged (checks s) (done (infoLength s ∷ []))
+
+-- input shorter than 2 + additional length (2)
+abbrev pub infoCheck : List ℕ → Check
+infoCheck s = ltb (length s) (2 + infoLength s) ⇒ InvalidFrame
+
+abbrev pub serviceInfoBy01 : List ℕ → Told
+serviceInfoBy01 s = judged (checks s ++ infoCheck s ∷ []) (viewed (2 + infoLength s) (length s))
+
+abbrev pub ServiceInfoPromise : List ℕ → View → Type 0
+ServiceInfoPromise s r = Parts.told r ≡ serviceInfoBy01 s
+
+abbrev pub ServiceInfoPartPromise : List ℕ → List ℕ → Type 0
+ServiceInfoPartPromise s r = r ≡ shown s (serviceInfoBy01 s)
+
+-- ---- L_Data
+
+abbrev pub isLData : CEMIMessageCode → Bool
+isLData LDataReq = true
+isLData LDataInd = true
+isLData LDataCon = true
+isLData LRawReq = false
+isLData LRawInd = false
+isLData LRawCon = false
+isLData LBusmonInd = false
+
+abbrev pub IsLDataPromise : CEMIFrame → Bool → Type 0
+IsLDataPromise f r = r ≡ isLData (f .«message_code»)
+
+-- what follows the additional information
+abbrev pub serviceInfo : List ℕ → List ℕ
+serviceInfo s = partOf s (2 + infoLength s) (length s)
+
+-- the record's code is not L_Data (6), the same 2
+abbrev pub ldataChecks : CEMIFrame → List ℕ → List Check
+ldataChecks f s = not (isLData (f .«message_code»)) ⇒ InvalidMessageCode ∷ infoCheck s ∷ []
+
+-- then L_Data on the rest
+abbrev pub asLDataBy01 : CEMIFrame → List ℕ → Told
+asLDataBy01 f s = judged (checks s ++ ldataChecks f s ++ byteChecks crateCount (serviceInfo s)) (done (held (serviceInfo s)))
+
+abbrev pub AsLDataPromise : CEMIFrame → List ℕ → LDataAnswer → Type 0
+AsLDataPromise f s r = LData.told r ≡ asLDataBy01 f s

@@ -1,0 +1,2 @@
+pub mod Cemi
+pub mod CemiLaws

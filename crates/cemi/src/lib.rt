@@ -1,0 +1,128 @@
+// A cEMI frame: cemi.rs, `CEMIFrame`, whose slice stands beside it as a parameter.
+ghost use Rattle.cemi.specs.Cemi.{ParsePromise, StandsPromise, MessageCodePromise, InfoLengthPromise, ServiceInfoPromise, ServiceInfoPartPromise, AsLDataPromise, IsLDataPromise};
+use constants::CEMIMessageCode;
+use constants::CEMIMessageCodeAnswer;
+use ldata::LDataAnswer;
+use ldata::LDataFields;
+use wire::Refusal;
+use wire::Verdict;
+use wire::View;
+
+pub struct CEMIFrame {
+    pub message_code: CEMIMessageCode,
+}
+
+pub enum CEMIAnswer {
+    Frame(CEMIFrame),
+    Refused(Refusal),
+}
+
+pub enum InfoLengthAnswer {
+    Length(u8),
+    Refused(Refusal),
+}
+
+impl CEMIFrame {
+    pub const MIN_SIZE: usize = 2;
+
+    pub fn parse(data: &[u8]) -> CEMIAnswer
+        ensures { λ r. ⌜ ParsePromise (now («data» .entry)) r ⌝ }
+    {
+        if data.len() < CEMIFrame::MIN_SIZE {
+            return CEMIAnswer::Refused(Refusal::BufferTooSmall);
+        }
+        match CEMIMessageCode::from_u8(data[0]) {
+            CEMIMessageCodeAnswer::Code(message_code) => CEMIAnswer::Frame(CEMIFrame {
+                message_code,
+            }),
+            CEMIMessageCodeAnswer::Refused(why) => CEMIAnswer::Refused(why),
+        }
+    }
+
+    pub fn message_code(self) -> CEMIMessageCode
+        ensures { λ r. ⌜ MessageCodePromise self r ⌝ }
+    {
+        self.message_code
+    }
+
+    pub fn additional_info_length(self, data: &[u8]) -> InfoLengthAnswer
+        ensures { λ r. ⌜ InfoLengthPromise (now («data» .entry)) r ⌝ }
+    {
+        match stands(data) {
+            Verdict::Accept => InfoLengthAnswer::Length(wire::byte_at(data, 1)),
+            Verdict::Refuse(why) => InfoLengthAnswer::Refused(why),
+        }
+    }
+
+    // Where the bytes after the additional information stand.
+    pub fn service_info(self, data: &[u8]) -> View
+        ensures { λ r. ⌜ ServiceInfoPromise (now («data» .entry)) r ⌝ }
+    {
+        match stands(data) {
+            Verdict::Accept => {
+                let start = 2 + wire::byte_at(data, 1) as usize;
+                if data.len() < start {
+                    return View::refused(Refusal::InvalidFrame);
+                }
+                View {
+                    number: 0,
+                    start,
+                    end: data.len(),
+                }
+            }
+            Verdict::Refuse(why) => View::refused(why),
+        }
+    }
+
+    // What `service_info` names, as a part that starts in the middle of the frame.
+    pub fn service_info_part(self, data: &[u8]) -> &[u8]
+        ensures { λ r. ⌜ ServiceInfoPartPromise (now («data» .entry)) (now r) ⌝ }
+    {
+        let view = self.service_info(data);
+        wire::part(data, view.start, view.end)
+    }
+
+    // The field decides whether it is L_Data, as in the Rust, and before the length is looked at.
+    pub fn as_ldata(self, data: &[u8]) -> LDataAnswer
+        ensures { λ r. ⌜ AsLDataPromise self (now («data» .entry)) r ⌝ }
+    {
+        match stands(data) {
+            Verdict::Accept => {
+                if !self.is_ldata() {
+                    return LDataAnswer::Refused(Refusal::InvalidMessageCode);
+                }
+                let start = 2 + wire::byte_at(data, 1) as usize;
+                if data.len() < start {
+                    return LDataAnswer::Refused(Refusal::InvalidFrame);
+                }
+                LDataFields::parse(wire::part(data, start, data.len()))
+            }
+            Verdict::Refuse(why) => LDataAnswer::Refused(why),
+        }
+    }
+
+    pub fn is_ldata(self) -> bool
+        ensures { λ r. ⌜ IsLDataPromise self r ⌝ }
+    {
+        let message_code = self.message_code;
+        match message_code {
+            CEMIMessageCode::LDataReq => true,
+            CEMIMessageCode::LDataInd => true,
+            CEMIMessageCode::LDataCon => true,
+            CEMIMessageCode::LRawReq => false,
+            CEMIMessageCode::LRawInd => false,
+            CEMIMessageCode::LRawCon => false,
+            CEMIMessageCode::LBusmonInd => false,
+        }
+    }
+}
+
+// The checks of a parse, which every accessor that reads through the slice repeats.
+fn stands(data: &[u8]) -> Verdict
+    ensures { λ r. ⌜ StandsPromise (now («data» .entry)) r ⌝ }
+{
+    match CEMIFrame::parse(data) {
+        CEMIAnswer::Frame(_) => Verdict::Accept,
+        CEMIAnswer::Refused(why) => Verdict::Refuse(why),
+    }
+}

@@ -1,0 +1,6 @@
+pub mod Count
+pub mod LData
+pub mod Builder
+pub mod LDataLaws
+pub mod BuilderLaws
+pub mod RoundTrip
