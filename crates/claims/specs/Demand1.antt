@@ -11,7 +11,7 @@ use Rattle.wire.specs.Parts as Parts
 use Rattle.wire.specs.PartLaws.{shown-refused}
 use Rattle.wire.specs.declared.refusals.Refusal.{Refusal}
 use Rattle.wire.specs.declared.refusals.Verdict.the-variants.{Refuse}
-use Rattle.wire.specs.Refusing.{Refusing, Leaves, judged-refusing, writes-refusing}
+use Rattle.wire.specs.Refusing.{Zeros, Refusing, Leaves, judged-refusing, writes-refusing}
 use Rattle.wire.specs.declared.refusals.Written.{Written}
 use Rattle.wire.specs.declared.parts.View.{View}
 use Rattle.constants.specs.Services.{serviceCheck, codeOf}
@@ -63,6 +63,12 @@ use Rattle.tunnelling.specs.declared.request.TunnelingRequest.{TunnelingRequest
 use Rattle.tunnelling.specs.declared.request.TunnelingRequestAnswer.{TunnelingRequestAnswer}
 use Rattle.tunnelling.specs.declared.ack.TunnelingAck.{TunnelingAck}
 use Rattle.tunnelling.specs.declared.ack.TunnelingAckAnswer.{TunnelingAckAnswer}
+use Rattle.tunnels.specs.Calls.{Call, outOf}
+use Rattle.table.specs.Table.{CallPromise}
+use Rattle.table.specs.Table as Table
+use Rattle.table.specs.Compiled as Compiled
+use Rattle.table.specs.declared.calls.Table.{Table}
+use Rattle.table.specs.declared.calls.Called.{Called}
 
 -- ---- wire
 
@@ -208,3 +214,9 @@ ack-build a b = writes-refusing (Ack.buildChecks (length b)) (Builder.frame S.Tu
 
 pub ack-parse : (s : List ℕ) (r : TunnelingAckAnswer) → Ack.ParsePromise s r → Refusing (Ack.told r)
 ack-parse s r = judged-refusing (Ack.checks (length s)) (done (Ack.held (get Ack.fields 0 s))) (Ack.told r) refl
+
+-- ---- table: every call, the five of them alike; what is not changed is the output and the table
+
+pub table-calls : (t : Table) (c : Call) (r : Called) (after : List ℕ) → CallPromise t c r after → (r .number ≡ 0 → ⊥)
+    → Zeros (Table.told r) × (after ≡ outOf c) × (r .table ≡ t)
+table-calls = Compiled.call-refusing

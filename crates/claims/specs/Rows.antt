@@ -1,10 +1,12 @@
--- 01, "Cases on both sides": the P rows of the frame, of L_Data and of APCI, proved together as one table.
+-- 01, "Cases on both sides": the P rows, proved together as one table.
 use Prim.Native.Nat.{ℕ}
 use mathlib.Core.Path.{_≡_, refl}
 use mathlib.Core.List.{List, [], _∷_}
+use mathlib.Core.Option.{some}
 use lib.ListN.{getD}
 use Rattle.wire.specs.Told.{Told, viewed}
 use Rattle.wire.specs.Parts.{shown}
+use Rattle.wire.specs.declared.refusals.Refusal.the-variants.{BufferTooSmall}
 use Rattle.constants.specs.declared.ServiceType.the-variants.{TunnellingRequest}
 use Rattle.pci.specs.Application.{apciOf, codeIn, SixBitPromise}
 use Rattle.pci.specs.declared.transport.Tpci.the-variants.{UnnumberedData}
@@ -17,6 +19,15 @@ use Rattle.header.specs.Header as Header
 use Rattle.frame.specs.Frame as Frame
 use Rattle.frame.specs.RoundTrip.{built}
 use Rattle.frame.specs.declared.fields.FrameAnswer.the-variants.{Frame}
+use Rattle.tunnel.specs.declared.Wait.{Wait}
+use Rattle.tunnel.specs.declared.Said.the-variants.{Deliver}
+use Rattle.tablelaws.specs.Store.{step}
+use Rattle.tunnels.specs.Calls.{Datagram, saidOf, refuses}
+use Rattle.tunnels.specs.Lone.{lone}
+use Rattle.tunnels.specs.Eight.{chan, eightOf}
+use Rattle.table.specs.Places.{kind}
+use Rattle.table.specs.declared.places.Place.{Place}
+use Rattle.claims.specs.Examples.{request, room}
 
 abbrev asFrame : List ℕ → ℕ
 asFrame s = Frame.parseBy01 s .number
@@ -50,6 +61,10 @@ asLData = LData.parseBy01 crateCount
 abbrev dataIn : LDataFields → List ℕ → List ℕ
 dataIn f s = shown s (LData.dataBy01 crateCount f s)
 
+-- the acknowledgement of that request, in an output of twelve bytes
+abbrev acked : List ℕ
+acked = 0x06 ∷ 0x10 ∷ 0x04 ∷ 0x21 ∷ 0x00 ∷ 0x0B ∷ 0x04 ∷ 21 ∷ 255 ∷ 0x00 ∷ 0x00 ∷ 9 ∷ []
+
 pub record P : Type 0 where
   pub empty : asFrame [] ≡ 1
   pub five : (a b c d e : ℕ) → asFrame (a ∷ b ∷ c ∷ d ∷ e ∷ []) ≡ 1
@@ -60,6 +75,7 @@ pub record P : Type 0 where
   pub total-as-header : asHeader (0x06 ∷ 0x10 ∷ 0x04 ∷ 0x20 ∷ 0x00 ∷ 0x05 ∷ []) ≡ 0
   pub bare-frame : Frame.parseBy01 bare ≡ Frame.told (Frame (built TunnellingRequest []))
   pub bare-body : Frame.bodyBy01 (built TunnellingRequest []) bare ≡ viewed 6 6
+  pub bare-datagram : (l : List Place) (out : List ℕ) → step chan (eightOf kind) l (Datagram bare out) ≡ (refuses BufferTooSmall out, l)
   pub write-2A : asLData (ldata 3 (0x00 ∷ 0x80 ∷ 0x2A ∷ [])) ≡ LData.told (L.Frame (groupWrite 3))
   pub write-2A-data : dataIn (groupWrite 3) (ldata 3 (0x00 ∷ 0x80 ∷ 0x2A ∷ [])) ≡ 0x2A ∷ []
   pub write-L4 : asLData (ldata 4 (0x00 ∷ 0x80 ∷ 0x2A ∷ [])) .number ≡ 2
@@ -68,6 +84,8 @@ pub record P : Type 0 where
   pub write-L2-data : dataIn (groupWrite 2) (ldata 2 (0x00 ∷ 0x81 ∷ [])) ≡ []
   pub write-L2-six : SixBitPromise (getD (ldata 2 (0x00 ∷ 0x81 ∷ [])) 8 0) 1
   pub apci-02-C0 : apciOf (codeIn 0x02 0xC0) ≡ Unknown 0x2C0
+  pub r-255 : (s : ℕ) (w : Wait) → lone (record { r = 255; s = s; w = w }) (Datagram (request 21 255) room)
+      ≡ ((record { number = 0; values = saidOf Deliver ∷ 11 ∷ []; start = 10; end = 12 }, acked), some (record { r = 0; s = s; w = w }))
 
 pub rows : P
 rows = record {
@@ -80,6 +98,7 @@ rows = record {
   total-as-header = refl;
   bare-frame = refl;
   bare-body = refl;
+  bare-datagram = λ l out. refl;
   write-2A = refl;
   write-2A-data = refl;
   write-L4 = refl;
@@ -88,4 +107,5 @@ rows = record {
   write-L2-data = refl;
   write-L2-six = refl;
   apci-02-C0 = refl;
+  r-255 = λ s w. refl;
 }

@@ -56,6 +56,15 @@ use Rattle.tunnelling.specs.Request as TunnelRequest
 use Rattle.tunnelling.specs.RequestLaws as TunnelRequestLaws
 use Rattle.tunnelling.specs.Ack as Ack
 use Rattle.tunnelling.specs.AckLaws as AckLaws
+use Rattle.datagram.specs.Heard as Heard
+use Rattle.datagram.specs.HeardLaws as HeardLaws
+use Rattle.tunnel.specs.Rules as Rules
+use Rattle.tunnel.specs.declared.Tunnel.{Tunnel}
+use Rattle.tunnels.specs.Calls.{Call, Open, Close, Timeout, Send, Datagram}
+use Rattle.table.specs.Table.{EmptyPromise, CallPromise}
+use Rattle.table.specs.Compiled as Compiled
+use Rattle.table.specs.declared.calls.Table.{Table}
+use Rattle.table.specs.declared.calls.Called.{Called}
 
 -- a promise over one, two or three inputs
 abbrev pub One : {A R : Type 0} → (A → R → Type 0) → Type 0
@@ -547,3 +556,68 @@ ack-parse = AckLaws.parse-one
 -- tunnelling::TunnelingAck::is_ok
 pub ack-is-ok : One Ack.IsOkPromise
 ack-is-ok a r q = same
+
+-- ---- datagram
+
+-- datagram::hear
+pub datagram-hear : One Heard.HearPromise
+datagram-hear = HeardLaws.hear-one
+
+-- ---- tunnel
+
+-- tunnel::Tunnel::fresh
+pub tunnel-fresh : (r q : Tunnel) → Rules.FreshPromise r → Rules.FreshPromise q → r ≡ q
+tunnel-fresh r q = same
+
+-- tunnel::Tunnel::waits
+pub tunnel-waits : One Rules.WaitsPromise
+tunnel-waits t r q = same
+
+-- tunnel::Tunnel::sending
+pub tunnel-sending : One Rules.SendingPromise
+tunnel-sending t r q = same
+
+-- tunnel::Tunnel::timeout
+pub tunnel-timeout : One Rules.TimeoutPromise
+tunnel-timeout t r q = same
+
+-- tunnel::Tunnel::arrival
+pub tunnel-arrival : One₂ Rules.ArrivalPromise
+tunnel-arrival t n r q = same
+
+-- tunnel::Tunnel::delivered
+pub tunnel-delivered : One Rules.DeliveredPromise
+tunnel-delivered t r q = same
+
+-- tunnel::Tunnel::acknowledged
+pub tunnel-acknowledged : One₃ Rules.AcknowledgedPromise
+tunnel-acknowledged t n status r q = same
+
+-- ---- table: the output afterwards is settled with the answer, and the table afterwards is part of it
+
+-- table::Table::empty
+pub table-empty : (r q : Table) → EmptyPromise r → EmptyPromise q → r ≡ q
+table-empty = Compiled.empty-one
+
+abbrev pub OneCall : Call → Type 0
+OneCall c = (t : Table) (r q : Called) (after later : List ℕ) → CallPromise t c r after → CallPromise t c q later → (r ≡ q) × (after ≡ later)
+
+-- table::Table::open
+pub table-open : (id : ℕ) → OneCall (Open id)
+table-open id t = Compiled.call-one t (Open id)
+
+-- table::Table::close
+pub table-close : (id : ℕ) → OneCall (Close id)
+table-close id t = Compiled.call-one t (Close id)
+
+-- table::Table::timeout
+pub table-timeout : (id : ℕ) → OneCall (Timeout id)
+table-timeout id t = Compiled.call-one t (Timeout id)
+
+-- table::Table::send
+pub table-send : (id : ℕ) (cemi out : List ℕ) → OneCall (Send id cemi out)
+table-send id cemi out t = Compiled.call-one t (Send id cemi out)
+
+-- table::Table::datagram
+pub table-datagram : (bytes out : List ℕ) → OneCall (Datagram bytes out)
+table-datagram bytes out t = Compiled.call-one t (Datagram bytes out)

@@ -5,20 +5,46 @@ use crate::frame_calls;
 use crate::ldata_calls;
 use crate::lines;
 use crate::lines::Told;
+use crate::table_calls;
 use crate::tunnel_calls;
+use table::Table;
 
-// A record that lends more than there is gets no line of its own, and so a line that is not expected.
-pub(crate) fn record(call: u8, args: &[u8], m: usize, buf: &mut [u8], out: &mut [u8]) -> usize {
-    if buf.len() < m {
-        return 0;
-    }
-    lent(call, args, &mut buf[..m], out)
+// How much of the line buffer is used, and the table of tunnels after the record.
+pub(crate) struct Answered {
+    pub(crate) used: usize,
+    pub(crate) table: Table,
 }
 
-fn lent(call: u8, args: &[u8], buf: &mut [u8], out: &mut [u8]) -> usize {
+// A record that lends more than there is gets no line of its own, and so a line that is not expected.
+pub(crate) fn record(
+    call: u8,
+    args: &[u8],
+    m: usize,
+    buf: &mut [u8],
+    out: &mut [u8],
+    table: Table,
+) -> Answered {
+    if buf.len() < m {
+        return Answered { used: 0, table };
+    }
+    lent(call, args, &mut buf[..m], out, table)
+}
+
+fn lent(call: u8, args: &[u8], buf: &mut [u8], out: &mut [u8], table: Table) -> Answered {
     fill(buf);
-    let t = answer(call, args, buf);
-    lines::line(out, t, buf)
+    if call < 46 {
+        let t = answer(call, args, buf);
+        return Answered {
+            used: lines::line(out, t, buf),
+            table,
+        };
+    }
+    let carried = table_calls::answer(call, args, buf, table);
+    let after = carried.table;
+    Answered {
+        used: lines::line(out, carried.told, buf),
+        table: after,
+    }
 }
 
 fn fill(buf: &mut [u8]) {

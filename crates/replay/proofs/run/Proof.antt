@@ -6,10 +6,13 @@ use Rattle.replay.proofs.run.Statement.{statement}
 use Rattle.replay.proofs.run.Tie as tie
 
 abbrev Inv-loop : tie.InvT-loop
-Inv-loop args₀ buf₀ out₀ turns₀ args buf out turns = (length args ≡ length args₀) × ((length buf ≡ length buf₀) × (length out ≡ length out₀))
+Inv-loop args₀ buf₀ out₀ turns₀ table₀ args buf out turns table = (length args ≡ length args₀) × ((length buf ≡ length buf₀) × (length out ≡ length out₀))
 
 abbrev μ-loop : tie.MeasureT-loop
-μ-loop args₀ buf₀ out₀ turns₀ args buf out turns = turns
+μ-loop args₀ buf₀ out₀ turns₀ table₀ args buf out turns table = turns
+
+empty-requires : tie.Need-empty-requires Inv-loop μ-loop
+empty-requires c κs = search needs
 
 loop-holds : tie.Need-loop-holds Inv-loop μ-loop
 loop-holds c = search needs
@@ -56,6 +59,7 @@ run-spec =
     (tie.spec
     Inv-loop
     μ-loop
+    empty-requires
     loop-holds
     turn-requires
     sub-turns

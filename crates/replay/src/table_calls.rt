@@ -1,0 +1,141 @@
+// The calls on a table of tunnels, 46 to 51: the table is carried from record to record.
+use crate::lines;
+use crate::lines::Told;
+use table::Called;
+use table::Hold;
+use table::Place;
+use table::Table;
+use tunnel::Said;
+use tunnel::Tunnel;
+use tunnel::Wait;
+
+// What a call told, and the table after it.
+pub(crate) struct Carried {
+    pub(crate) told: Told,
+    pub(crate) table: Table,
+}
+
+pub(crate) fn answer(call: u8, args: &[u8], buf: &mut [u8], table: Table) -> Carried {
+    let id = wire::byte_at(args, 0);
+    match call {
+        46 => shown(table_of(args), false),
+        47 => called(table.open(id), false),
+        48 => called(table.close(id), false),
+        49 => called(table.timeout(id), false),
+        50 => called(table.send(id, wire::part(args, 1, args.len()), buf), true),
+        _ => called(table.datagram(args, buf), true),
+    }
+}
+
+// Five bytes a place: open, id, r, s, wait.
+fn table_of(args: &[u8]) -> Table {
+    let mut table = Table::empty();
+    table.places[0] = place_of(wire::part(args, 0, 5));
+    table.places[1] = place_of(wire::part(args, 5, 10));
+    table.places[2] = place_of(wire::part(args, 10, 15));
+    table.places[3] = place_of(wire::part(args, 15, 20));
+    table.places[4] = place_of(wire::part(args, 20, 25));
+    table.places[5] = place_of(wire::part(args, 25, 30));
+    table.places[6] = place_of(wire::part(args, 30, 35));
+    table.places[7] = place_of(wire::part(args, 35, 40));
+    table
+}
+
+fn place_of(five: &[u8]) -> Place {
+    if wire::byte_at(five, 0) == 0 {
+        return Place { hold: Hold::Free };
+    }
+    let tunnel = Tunnel {
+        r: wire::byte_at(five, 2),
+        s: wire::byte_at(five, 3),
+        w: wait_of(wire::byte_at(five, 4)),
+    };
+    Place {
+        hold: Hold::Held {
+            id: wire::byte_at(five, 1),
+            tunnel,
+        },
+    }
+}
+
+fn wait_of(n: u8) -> Wait {
+    match n {
+        0 => Wait::Idle,
+        1 => Wait::First,
+        _ => Wait::Second,
+    }
+}
+
+fn wait_number(w: Wait) -> u8 {
+    match w {
+        Wait::Idle => 0,
+        Wait::First => 1,
+        Wait::Second => 2,
+    }
+}
+
+fn said_number(said: Said) -> usize {
+    match said {
+        Said::Nothing => 0,
+        Said::Repeat => 1,
+        Said::GiveUp => 2,
+        Said::Deliver => 3,
+        Said::Duplicate => 4,
+        Said::OutOfOrder => 5,
+        Said::Sent => 6,
+        Said::Ignored => 7,
+    }
+}
+
+// One number for all that a place holds; 0 for a free one.
+fn place_number(p: Place) -> usize {
+    let hold = p.hold;
+    match hold {
+        Hold::Free => 0,
+        Hold::Held { id, tunnel } => {
+            let w = tunnel.w;
+            let s = tunnel.s as usize + 256 * (wait_number(w) as usize);
+            1 + id as usize + 256 * (tunnel.r as usize + 256 * s)
+        }
+    }
+}
+
+// The places after the call stand behind four values.
+fn with_places(t: Told, table: Table) -> Told {
+    let mut u = t;
+    let places = table.places;
+    u.values[4] = place_number(places[0]);
+    u.values[5] = place_number(places[1]);
+    u.values[6] = place_number(places[2]);
+    u.values[7] = place_number(places[3]);
+    u.values[8] = place_number(places[4]);
+    u.values[9] = place_number(places[5]);
+    u.values[10] = place_number(places[6]);
+    u.values[11] = place_number(places[7]);
+    u
+}
+
+fn shown(table: Table, lends: bool) -> Carried {
+    let mut t = lines::done(12);
+    t.lends = lends;
+    Carried {
+        told: with_places(t, table),
+        table,
+    }
+}
+
+fn called(c: Called, lends: bool) -> Carried {
+    let said = c.said;
+    let mut t = lines::done(12);
+    t.number = c.number;
+    t.lends = lends;
+    t.values[0] = said_number(said);
+    t.values[1] = c.start;
+    t.values[2] = c.end;
+    t.values[3] = c.written;
+    let table = c.table;
+    Carried {
+        told: with_places(t, table),
+        table,
+    }
+}

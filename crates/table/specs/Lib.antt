@@ -1,0 +1,5 @@
+pub mod Places
+pub mod Table
+pub mod SeekLaws
+pub mod TableLaws
+pub mod Compiled
