@@ -64,6 +64,10 @@ use Rattle.tunnelling.specs.declared.request.TunnelingRequestAnswer.{TunnelingR
 use Rattle.tunnelling.specs.declared.ack.TunnelingAck.{TunnelingAck}
 use Rattle.tunnelling.specs.declared.ack.TunnelingAckAnswer.{TunnelingAckAnswer}
 use Rattle.tunnels.specs.Calls.{Call, outOf}
+use mathlib.Core.Bool.{Bool}
+use Rattle.kip.specs.Judge as Judge
+use Rattle.kip.specs.Line as Line
+use Rattle.kip.specs.declared.judging.Judged.{Judged}
 use Rattle.table.specs.Table.{CallPromise}
 use Rattle.table.specs.Table as Table
 use Rattle.table.specs.Compiled as Compiled
@@ -214,6 +218,17 @@ ack-build a b = writes-refusing (Ack.buildChecks (length b)) (Builder.frame S.Tu
 
 pub ack-parse : (s : List ℕ) (r : TunnelingAckAnswer) → Ack.ParsePromise s r → Refusing (Ack.told r)
 ack-parse s r = judged-refusing (Ack.checks (length s)) (done (Ack.held (get Ack.fields 0 s))) (Ack.told r) refl
+
+-- ---- kip
+
+pub kip-judge : (s : List ℕ) (r : Judged) → Judge.JudgePromise s r → Refusing (Judge.told r)
+kip-judge s r = judged-refusing (Frame.checks (length s) (get Header.fields 0 s)) (done (Header.serviceIn (get Header.fields 0 s) ∷ Header.totalIn (get Header.fields 0 s) ∷ [])) (Judge.told r) refl
+
+pub kip-line : (n : ℕ) (j : Judged) (out : List ℕ) (r : Written) (after : List ℕ) → Line.LinePromise n j out r after → Refusing (Written.told r) × Leaves (Written.told r) out after
+kip-line n j out = writes-refusing (room (length (Line.lineOf n j)) (length out) ∷ []) (Line.lineOf n j) out
+
+pub kip-ending : (n : ℕ) (cut : Bool) (out : List ℕ) (r : Written) (after : List ℕ) → Line.EndingPromise n cut out r after → Refusing (Written.told r) × Leaves (Written.told r) out after
+kip-ending n cut out = writes-refusing (room (length (Line.endingOf n cut)) (length out) ∷ []) (Line.endingOf n cut) out
 
 -- ---- table: every call, the five of them alike; what is not changed is the output and the table
 

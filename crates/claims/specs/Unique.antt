@@ -61,6 +61,11 @@ use Rattle.datagram.specs.HeardLaws as HeardLaws
 use Rattle.tunnel.specs.Rules as Rules
 use Rattle.tunnel.specs.declared.Tunnel.{Tunnel}
 use Rattle.tunnels.specs.Calls.{Call, Open, Close, Timeout, Send, Datagram}
+use Rattle.kip.specs.Capture as Capture
+use Rattle.kip.specs.Judge as Judge
+use Rattle.kip.specs.JudgeLaws as JudgeLaws
+use Rattle.kip.specs.Line as Line
+use Rattle.kip.specs.LineLaws as LineLaws
 use Rattle.table.specs.Table.{EmptyPromise, CallPromise}
 use Rattle.table.specs.Compiled as Compiled
 use Rattle.table.specs.declared.calls.Table.{Table}
@@ -621,3 +626,25 @@ table-send id cemi out t = Compiled.call-one t (Send id cemi out)
 -- table::Table::datagram
 pub table-datagram : (bytes out : List ℕ) → OneCall (Datagram bytes out)
 table-datagram bytes out t = Compiled.call-one t (Datagram bytes out)
+
+-- ---- kip
+
+-- kip::starts
+pub kip-starts : One Capture.StartsPromise
+kip-starts s r q = same
+
+-- kip::next_record
+pub kip-next-record : One₂ Capture.NextPromise
+kip-next-record s at r q = same
+
+-- kip::judge
+pub kip-judge : One Judge.JudgePromise
+kip-judge = JudgeLaws.judge-one
+
+-- kip::line
+pub kip-line : Lent₂ Line.LinePromise
+kip-line = LineLaws.line-one
+
+-- kip::ending
+pub kip-ending : Lent₂ Line.EndingPromise
+kip-ending = LineLaws.ending-one

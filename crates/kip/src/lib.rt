@@ -1,0 +1,14 @@
+// The capture format KIP 1: its start, its records one at a time from a lent buffer, what the frame checks say of each, and the lines of an inspection.
+mod capture;
+mod digits;
+mod judging;
+mod lines;
+
+pub use capture::Next;
+pub use capture::START_SIZE;
+pub use capture::next_record;
+pub use capture::starts;
+pub use judging::Judged;
+pub use judging::judge;
+pub use lines::ending;
+pub use lines::line;
