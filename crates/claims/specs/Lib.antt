@@ -1,3 +1,4 @@
+-- What `claims` promises, in reading order: definitions, then laws.
 pub mod Demand1
 pub mod Demand2
 pub mod Demand3

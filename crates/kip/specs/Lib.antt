@@ -1,3 +1,4 @@
+-- What `kip` promises, in reading order: definitions, then laws.
 pub mod Capture
 pub mod Judge
 pub mod JudgeLaws

@@ -1,3 +1,4 @@
+-- What `wire` promises, in reading order: definitions, then laws.
 pub mod Numbers
 pub mod Told
 pub mod Written

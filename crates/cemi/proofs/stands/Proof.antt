@@ -1,4 +1,4 @@
--- Assumes nothing.
+-- `stands` keeps its contract. Assumes nothing.
 use mathlib.Core.Path.{refl, sym}
 use Rattle.wire.specs.ToldLaws.{carried}
 use Rattle.cemi.specs.Cemi.{ParsePromise}

@@ -1,4 +1,4 @@
--- Assumes nothing.
+-- `CEMIFrame::additional_info_length` keeps its contract. Assumes nothing.
 use Prim.Native.Nat.{ℕ}
 use mathlib.Core.Path.{ap, sym, _∙_}
 use mathlib.Core.List.{[], _∷_}

@@ -1,4 +1,4 @@
--- Assumes nothing.
+-- `read_status` keeps its contract. Assumes nothing.
 use borrow.Author.Tests.{lt-ltb, le-ltb}
 use borrow.Author.Needs.{needs}
 use Rattle.connect.proofs.channel.read_status.Statement.{statement}

@@ -1,4 +1,4 @@
--- Assumes nothing.
+-- `hex_digit` keeps its contract. Assumes nothing.
 use borrow.Author.Tests.{lt-ltb, le-ltb}
 use borrow.Author.Needs.{needs}
 use Rattle.kip.proofs.digits.hex_digit.Statement.{statement}

@@ -1,4 +1,4 @@
--- Assumes nothing.
+-- `judge` keeps its contract. Assumes nothing.
 use Prim.Native.Nat.{ℕ}
 use mathlib.Core.Path.{refl, ap, sym, _∙_}
 use mathlib.Core.List.{[], _∷_}

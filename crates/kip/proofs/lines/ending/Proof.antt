@@ -1,4 +1,4 @@
--- Assumes nothing.
+-- `ending` keeps its contract. Assumes nothing.
 use mathlib.Core.Path.{refl, ap, sym, subst, _∙_}
 use mathlib.Core.Bool.{Bool, cond}
 use mathlib.Core.List.{List, []}

@@ -1,4 +1,4 @@
--- Assumes nothing.
+-- `touched` keeps its contract. Assumes nothing.
 use Prim.Native.Nat.{_≤_}
 use lib.ListN.{length}
 use borrow.Author.Needs.{needs}

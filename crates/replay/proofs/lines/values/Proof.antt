@@ -1,4 +1,4 @@
--- Assumes nothing.
+-- `values` keeps its contract. Assumes nothing.
 use Prim.Native.Nat.{_≤_, _-_}
 use mathlib.Core.Path.{_≡_}
 use lib.ListN.{length}

@@ -1,4 +1,4 @@
--- Assumes nothing.
+-- `ConnectionRequestInfo::decode` keeps its contract. Assumes nothing.
 use borrow.Author.Tests.{lt-ltb, le-ltb, eq-eqb, ne-eqb}
 use borrow.Author.Needs.{needs}
 use Rattle.connect.proofs.cri.ConnectionRequestInfo.decode.Statement.{statement}

@@ -1,4 +1,4 @@
--- Assumes nothing.
+-- `LDataFields::data` keeps its contract. Assumes nothing.
 use Prim.Native.Nat.{ℕ, _+_}
 use mathlib.Core.Path.{ap, sym, _∙_}
 use mathlib.Core.Bool.{Bool}
