@@ -1,38 +1,105 @@
--- One digit more, from the right; and what is printed reads as the number. Assumes nothing.
+-- How many digits a number has, how they are stored from the right, and that what is printed reads as the number. Assumes nothing.
 use Prim.Native.Nat.{ℕ, zero, suc, _+_, _-_, _*_, _/_, _%_, _<_, _≤_}
 use native.Mathlib.Omega.{arith}
 use mathlib.Core.Path.{_≡_, refl, sym, ap, _∙_}
 use mathlib.Core.Bool.{Bool, true, false, cond}
-use mathlib.Core.List.{List, [], _∷_, _++_}
+use mathlib.Core.List.{List, [], _∷_, _++_, append-assoc, append-nil}
 use lib.Dec.{eqb, ltb}
-use lib.ListN.{length, take, drop, set}
-use lib.Seq.{append-snoc, set-split, drop-at, length-take-le}
-use borrow.Author.Tests.{ne-eqb, eqb-true, lt-ltb, le-ltb, ltb-true, ltb-false}
+use lib.ListN.{length, take, drop, set, length-append, take-append-drop}
+use lib.Seq.{append-snoc, set-split, drop-at, length-take-le, take-set-le}
+use borrow.Author.Tests.{ne-eqb, eqb-true, eqb-false, lt-ltb, le-ltb, ltb-true, ltb-false}
 use Rattle.kip.specs.Digits.{digitsOf, decimal, hexDigit, readFrom, tens, hexValue}
 
--- the text from a place on, with a digit stored there
-stored : (text : List ℕ) (j d : ℕ) → j < length text → drop j (set text j d) ≡ d ∷ drop (suc j) text
-stored text j d h = ap (drop j) (set-split text j d h) ∙ drop-at (take j text) (d ∷ drop (suc j) text) j (length-take-le j text (omega arith))
+-- ---- how many there are
+
+pub none-left : (k : ℕ) → length (digitsOf k 0) ≡ 0
+unfolding digitsOf
+none-left zero = refl
+none-left (suc k) = refl
+
+pub no-place : (n : ℕ) → length (digitsOf 0 n) ≡ 0
+unfolding digitsOf
+no-place n = refl
+
+-- one digit more while something is left
+pub one-more : (k n : ℕ) → 1 ≤ k → (n ≡ 0 → ⊥) → length (digitsOf k n) ≡ length (digitsOf (k - 1) (n / 10)) + 1
+unfolding digitsOf
+one-more zero n h some = absurd (omega arith)
+one-more (suc k) n h some =
+    let q : suc k - 1 ≡ k = omega arith in
+    rw (q, ne-eqb n 0 some) (length-append (digitsOf k (n / 10)) ((48 + n % 10) ∷ []))
+
+-- the last digit, and those before it
+pub last-place : (n : ℕ) → length (decimal n) ≡ length (digitsOf 19 (n / 10)) + 1
+last-place n = go (eqb n 0) refl
+  where
+    go : (b : Bool) → eqb n 0 ≡ b → length (cond b (48 ∷ []) (digitsOf 20 n)) ≡ length (digitsOf 19 (n / 10)) + 1
+    go true e = let z : n / 10 ≡ 0 = omega (arith, eqb-true n 0 e) in ap (λ (k : ℕ). k + 1) (sym (ap (λ (m : ℕ). length (digitsOf 19 m)) z ∙ none-left 19))
+    go false e = one-more 20 n (omega arith) (eqb-false n 0 e)
+
+-- a number of 64 bits has at most twenty digits, as is its definition's bound
+digits-most : (k n : ℕ) → length (digitsOf k n) ≤ k
+unfolding digitsOf
+digits-most zero n = omega arith
+digits-most (suc k) n = go (eqb n 0) (digits-most k (n / 10))
+  where
+    go : (b : Bool) → length (digitsOf k (n / 10)) ≤ k → length (cond b [] (digitsOf k (n / 10) ++ (48 + n % 10) ∷ [])) ≤ suc k
+    go true ih = omega arith
+    go false ih = omega (arith, length-append (digitsOf k (n / 10)) ((48 + n % 10) ∷ []))
+
+pub places-most : (n : ℕ) → length (decimal n) ≤ 20
+places-most n = omega (arith, last-place n, digits-most 19 (n / 10))
+
+-- ---- storing them, the last one first
+
+-- as many digits as there are places, leading zeros too
+abbrev pub lastDigits : ℕ → ℕ → List ℕ
+lastDigits zero n = []
+lastDigits (suc k) n = lastDigits k (n / 10) ++ (48 + n % 10) ∷ []
+
+digits-fill : (k n : ℕ) → lastDigits (length (digitsOf k n)) n ≡ digitsOf k n
+unfolding digitsOf
+digits-fill zero n = refl
+digits-fill (suc k) n = go (eqb n 0) (digits-fill k (n / 10))
+  where
+    go : (b : Bool) → lastDigits (length (digitsOf k (n / 10))) (n / 10) ≡ digitsOf k (n / 10)
+        → lastDigits (length (cond b [] (digitsOf k (n / 10) ++ (48 + n % 10) ∷ []))) n ≡ cond b [] (digitsOf k (n / 10) ++ (48 + n % 10) ∷ [])
+    go true ih = refl
+    go false ih =
+        let d : List ℕ = (48 + n % 10) ∷ [] in
+        let q : length (digitsOf k (n / 10) ++ d) ≡ suc (length (digitsOf k (n / 10))) = length-append (digitsOf k (n / 10)) d ∙ omega arith in
+        ap (λ (m : ℕ). lastDigits m n) q ∙ ap (λ (l : List ℕ). l ++ d) ih
+
+-- a number fills its places
+pub decimal-fills : (n : ℕ) → lastDigits (length (decimal n)) n ≡ decimal n
+decimal-fills n = go (eqb n 0) refl
+  where
+    go : (b : Bool) → eqb n 0 ≡ b → lastDigits (length (cond b (48 ∷ []) (digitsOf 20 n))) n ≡ cond b (48 ∷ []) (digitsOf 20 n)
+    go true e = ap (lastDigits 1) (eqb-true n 0 e)
+    go false e = digits-fill 20 n
+
+-- what the output becomes: the digits that are still to come, before those that stand
+abbrev pub standing : List ℕ → ℕ → ℕ → ℕ → List ℕ
+standing out at i rest = take at out ++ lastDigits (i - at) rest ++ drop i out
 
 -- one turn: the last digit of what is left is stored before the digits that stand
-pub digit-turn : (text : List ℕ) (start rest : ℕ) → 1 ≤ start → start ≤ length text → (rest ≡ 0 → ⊥)
-    → digitsOf start rest ++ drop start text ≡ digitsOf (start - 1) (rest / 10) ++ drop (start - 1) (set text (start - 1) (48 + rest % 10))
-unfolding digitsOf
-digit-turn text zero rest one fits some = absurd (omega arith)
-digit-turn text (suc j) rest one fits some =
-    let q : suc j - 1 ≡ j = omega arith in
+pub digit-turn : (out : List ℕ) (at i rest : ℕ) → at < i → i ≤ length out → standing (set out (i - 1) (48 + rest % 10)) at (i - 1) (rest / 10) ≡ standing out at i rest
+digit-turn out at zero rest less fits = absurd (omega arith)
+digit-turn out at (suc j) rest less fits =
     let d : ℕ = 48 + rest % 10 in
-    rw (q, ne-eqb rest 0 some) (append-snoc (digitsOf j (rest / 10)) d (drop (suc j) text) ∙ ap (λ (l : List ℕ). digitsOf j (rest / 10) ++ l) (sym (stored text j d (omega arith))))
+    let k : ℕ = j - at in
+    let q : suc j - 1 ≡ j = omega arith in
+    let p : suc j - at ≡ suc k = omega arith in
+    let front : List ℕ = take at out in
+    let some : List ℕ = lastDigits k (rest / 10) in
+    let stored : drop j (set out j d) ≡ d ∷ drop (suc j) out =
+    ap (drop j) (set-split out j d (omega arith)) ∙ drop-at (take j out) (d ∷ drop (suc j) out) j (length-take-le j out (omega arith)) in
+    rw (q, p, take-set-le at out j d (omega arith), stored)
+    (sym (append-snoc (front ++ some) d (drop (suc j) out)) ∙ ap (λ (l : List ℕ). l ++ drop (suc j) out) (append-assoc front some (d ∷ [])))
 
--- nothing is left
-pub digit-end : (start : ℕ) (l : List ℕ) → digitsOf start 0 ++ l ≡ l
-unfolding digitsOf
-digit-end zero l = refl
-digit-end (suc k) l = refl
-
-pub digit-none : (n : ℕ) (l : List ℕ) → digitsOf 0 n ++ l ≡ l
-unfolding digitsOf
-digit-none n l = refl
+-- nothing is still to come
+pub digits-stand : (out : List ℕ) (at rest : ℕ) → standing out at at rest ≡ out
+digits-stand out at rest = let z : at - at ≡ 0 = omega arith in rw z (ap (λ (l : List ℕ). l ++ drop at out) (append-nil (take at out)) ∙ take-append-drop at out)
 
 -- ---- what is printed reads as the number
 

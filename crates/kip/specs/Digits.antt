@@ -1,11 +1,10 @@
 -- "Service in four upper-case hex digits, total length in decimal": the digits of a number, as the bytes that are printed. Assumes nothing.
-use Prim.Native.Nat.{ℕ, zero, suc, _+_, _-_, _*_, _/_, _%_, _≤_}
+use Prim.Native.Nat.{ℕ, zero, suc, _+_, _-_, _*_, _/_, _%_}
 use mathlib.Core.Path.{_≡_}
 use mathlib.Core.Bool.{cond}
 use mathlib.Core.List.{List, [], _∷_, _++_}
-use lib.ListN.{length, drop}
+use lib.ListN.{length}
 use lib.Dec.{eqb, ltb}
-use Rattle.kip.specs.declared.digits.Decimal.{Decimal}
 
 -- the last k decimal digits of n without leading zeros: none of 0
 unfoldable pub digitsOf : ℕ → ℕ → List ℕ
@@ -16,9 +15,8 @@ digitsOf (suc k) n = cond (eqb n 0) [] (digitsOf k (n / 10) ++ (48 + n % 10) ∷
 abbrev pub decimal : ℕ → List ℕ
 decimal n = cond (eqb n 0) (48 ∷ []) (digitsOf 20 n)
 
--- an array that ends with the digits, and where they start
-abbrev pub DecimalPromise : ℕ → Decimal → Type 0
-DecimalPromise n r = (drop (r .start) (r .text) ≡ decimal n) × (length (r .text) ≡ 20) × (r .start ≤ 20)
+abbrev pub PlacesPromise : ℕ → ℕ → Type 0
+PlacesPromise n r = r ≡ length (decimal n)
 
 abbrev pub hexDigit : ℕ → ℕ
 hexDigit d = cond (ltb d 10) (48 + d) (55 + d)

@@ -1,16 +1,25 @@
 -- "1 0421 11", "2 refused 2", "records 2": the lines of an inspection, each with its line feed. Assumes nothing.
 use Prim.Native.Nat.{ℕ}
+use mathlib.Core.Path.{_≡_}
 use mathlib.Core.Bool.{Bool, cond}
 use mathlib.Core.List.{List, [], _∷_, _++_}
+use lib.ListN.{length}
 use lib.Dec.{eqb}
 use Rattle.wire.specs.Written.{WritePromise}
 use Rattle.wire.specs.declared.refusals.Written.{Written}
 use Rattle.kip.specs.Digits.{decimal, hex4}
 use Rattle.kip.specs.declared.judging.Judged.{Judged}
 
--- three parts and a line feed
-abbrev pub joined : List ℕ → List ℕ → List ℕ → List ℕ
-joined a b c = a ++ b ++ c ++ 10 ∷ []
+-- a text, a number and a line feed
+abbrev pub closing : List ℕ → ℕ → List ℕ
+closing text n = text ++ decimal n ++ 10 ∷ []
+
+-- the record's number in the capture first
+abbrev pub numbered : ℕ → List ℕ → ℕ → List ℕ
+numbered n text last = decimal n ++ closing text last
+
+abbrev pub NumberedPromise : ℕ → List ℕ → ℕ → List ℕ → Written → List ℕ → Type 0
+NumberedPromise n text last out r after = WritePromise (numbered n text last) out r after
 
 -- a space, the service, a space
 abbrev pub serviceText : ℕ → List ℕ
@@ -21,7 +30,7 @@ abbrev pub refusedText : List ℕ
 refusedText = 32 ∷ 114 ∷ 101 ∷ 102 ∷ 117 ∷ 115 ∷ 101 ∷ 100 ∷ 32 ∷ []
 
 abbrev pub lineOf : ℕ → Judged → List ℕ
-lineOf n j = cond (eqb (j .number) 0) (joined (decimal n) (serviceText (j .service)) (decimal (j .total))) (joined (decimal n) refusedText (decimal (j .number)))
+lineOf n j = cond (eqb (j .number) 0) (numbered n (serviceText (j .service)) (j .total)) (numbered n refusedText (j .number))
 
 -- written at the start of the output, or not at all where it does not fit (1)
 abbrev pub LinePromise : ℕ → Judged → List ℕ → Written → List ℕ → Type 0
@@ -31,14 +40,17 @@ LinePromise n j out r after = WritePromise (lineOf n j) out r after
 abbrev pub cutText : List ℕ
 cutText = 99 ∷ 117 ∷ 116 ∷ 10 ∷ []
 
+abbrev pub cutFront : Bool → List ℕ
+cutFront cut = cond cut cutText []
+
+abbrev pub CutSizePromise : Bool → ℕ → Type 0
+CutSizePromise cut r = r ≡ length (cutFront cut)
+
 abbrev pub recordsText : List ℕ
 recordsText = 114 ∷ 101 ∷ 99 ∷ 111 ∷ 114 ∷ 100 ∷ 115 ∷ 32 ∷ []
 
 abbrev pub endingOf : ℕ → Bool → List ℕ
-endingOf n cut = joined (cond cut cutText []) recordsText (decimal n)
+endingOf n cut = cutFront cut ++ closing recordsText n
 
 abbrev pub EndingPromise : ℕ → Bool → List ℕ → Written → List ℕ → Type 0
 EndingPromise n cut out r after = WritePromise (endingOf n cut) out r after
-
-abbrev pub JoinPromise : List ℕ → List ℕ → List ℕ → List ℕ → Written → List ℕ → Type 0
-JoinPromise a b c out r after = WritePromise (joined a b c) out r after

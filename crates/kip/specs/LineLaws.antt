@@ -1,59 +1,67 @@
 -- A line is its parts, each copied right behind what stands; no second answer. Assumes nothing.
-use Prim.Native.Nat.{ℕ, _+_, _-_, _<_, _≤_}
+use Prim.Native.Nat.{ℕ, _+_, _<_, _≤_}
 use native.Mathlib.Omega.{arith}
-use mathlib.Core.Path.{_≡_, sym, ap, _∙_}
+use mathlib.Core.Path.{_≡_, refl, sym, ap, _∙_}
 use mathlib.Core.List.{List, [], _∷_, _++_}
-use lib.ListN.{length, drop, length-drop, length-append}
-use lib.Seq.{take-all}
-use lib.Dec.{eqb, ltb}
+use lib.ListN.{length, length-append}
+use lib.Dec.{eqb}
 use mathlib.Core.Bool.{Bool, true, false}
 use borrow.Author.Tests.{lt-ltb, le-ltb}
-use Rattle.wire.specs.Written.{onto}
+use Rattle.wire.specs.Told.{done}
+use Rattle.wire.specs.Written.{onto, WritePromise}
 use Rattle.wire.specs.WrittenLaws.{write-one}
 use Rattle.wire.specs.Layout.{copied}
-use Rattle.wire.specs.LayoutLaws.{copied-front, copied-behind, length-three}
+use Rattle.wire.specs.LayoutLaws.{copied-front, copied-behind, copied-on, length-three}
 use Rattle.wire.specs.Parts.{partOf}
-use Rattle.wire.specs.PartLaws.{part-is}
+use Rattle.wire.specs.declared.refusals.Refusal.the-variants.{BufferTooSmall}
 use Rattle.wire.specs.declared.refusals.Written.{Written}
-use Rattle.kip.specs.Digits.{decimal, DecimalPromise}
-use Rattle.kip.specs.Line.{joined, serviceText, refusedText, lineOf, LinePromise, endingOf, EndingPromise}
-use Rattle.kip.specs.declared.digits.Decimal.{Decimal}
+use Rattle.wire.specs.declared.refusals.Written.the-variants.{Bytes, Refused}
+use Rattle.kip.specs.Digits.{decimal}
+use Rattle.kip.specs.Line.{closing, numbered, serviceText, refusedText, lineOf, LinePromise, cutText, cutFront, endingOf, EndingPromise}
 use Rattle.kip.specs.declared.judging.Judged.{Judged}
 
-pub joined-length : (a b c : List ℕ) → length (joined a b c) ≡ length a + length b + length c + 1
-joined-length a b c = length-append (a ++ b ++ c) (10 ∷ []) ∙ ap (λ (k : ℕ). k + 1) (length-three a b c)
+pub closing-length : (text : List ℕ) (n : ℕ) → length (closing text n) ≡ length text + length (decimal n) + 1
+closing-length text n = length-three text (decimal n) (10 ∷ [])
 
-pub no-room : (a b c out : List ℕ) → length out < length a + length b + length c + 1 → ltb (length out) (length (joined a b c)) ≡ true
-no-room a b c out h = lt-ltb (length out) (length (joined a b c)) (omega (arith, joined-length a b c))
+-- a front and what closes the line, each copied right behind what stands
+module _ (front text out : List ℕ) (n to-text to-end : ℕ) (a : to-text ≡ length front) (b : to-end ≡ to-text + length text + length (decimal n)) where
+  line-length : length (front ++ closing text n) ≡ to-end + 1
+  line-length = length-append front (closing text n) ∙ omega (arith, closing-length text n)
 
-pub has-room : (a b c out : List ℕ) → length a + length b + length c + 1 ≤ length out → ltb (length out) (length (joined a b c)) ≡ false
-has-room a b c out h = le-ltb (length out) (length (joined a b c)) (omega (arith, joined-length a b c))
+  pub no-room : length out < to-end + 1 → WritePromise (front ++ closing text n) out (Refused BufferTooSmall) out
+  no-room h = let q = lt-ltb (length out) (length (front ++ closing text n)) (omega (arith, line-length)) in (simp q, simp q)
 
-pub laid : (a b c out one two three after : List ℕ) (to-b to-c to-end : ℕ)
-    → to-b ≡ length a → to-c ≡ to-b + length b → to-end ≡ to-c + length c → to-end + 1 ≤ length out
-    → one ≡ copied a out 0 → two ≡ copied b one to-b → three ≡ copied c two to-c → after ≡ copied (10 ∷ []) three to-end → after ≡ onto out (joined a b c)
-laid a b c out one two three after to-b to-c to-end eb ec ee fits p q r s =
-    let first : one ≡ onto out a = p ∙ copied-front a out (omega arith) in
-    let second : two ≡ onto out (a ++ b) = q ∙ ap (λ (l : List ℕ). copied b l to-b) first ∙ copied-behind a b out to-b (sym eb) (omega arith) in
-    let third : three ≡ onto out (a ++ b ++ c) =
-    r ∙ ap (λ (l : List ℕ). copied c l to-c) second ∙ copied-behind (a ++ b) c out to-c (length-append a b ∙ omega arith) (omega arith) in
-    s ∙ ap (λ (l : List ℕ). copied (10 ∷ []) l to-end) third ∙ copied-behind (a ++ b ++ c) (10 ∷ []) out to-end (length-three a b c ∙ omega arith) (omega arith)
+  pub laid : to-end + 1 ≤ length out → (one after : List ℕ) → one ≡ copied front out 0 → after ≡ copied (closing text n) one to-text
+      → WritePromise (front ++ closing text n) out (Bytes (to-end + 1)) after
+  laid h one after p q =
+      let fits = le-ltb (length out) (length (front ++ closing text n)) (omega (arith, line-length)) in
+      let first : one ≡ onto out front = p ∙ copied-front front out (omega arith) in
+      let second : after ≡ onto out (front ++ closing text n) =
+      q ∙ ap (λ (l : List ℕ). copied (closing text n) l to-text) first ∙ copied-behind front (closing text n) out to-text (sym a) (omega (arith, closing-length text n)) in
+      (simp fits (ap (λ (k : ℕ). done (k ∷ [])) (sym line-length)), simp fits second)
 
--- the digits are the part of their text from their start on
-pub digits-part : (n : ℕ) (d : Decimal) → DecimalPromise n d → partOf (d .text) (d .start) 20 ≡ decimal n
-digits-part n d p =
-    part-is (d .text) (d .start) 20 (p .2) (omega (arith, p .1))
-    ∙ take-all (20 - d .start) (drop (d .start) (d .text)) (omega (arith, length-drop (d .start) (d .text), p .1))
-    ∙ p .0
+-- a text, a number and a line feed, each copied right behind what stands
+pub closed : (text out one two after : List ℕ) (n at to-number to-end : ℕ)
+    → to-number ≡ at + length text → to-end ≡ to-number + length (decimal n) → to-end + 1 ≤ length out
+    → one ≡ copied text out at → two ≡ copied (decimal n) one to-number → after ≡ copied (10 ∷ []) two to-end → after ≡ copied (closing text n) out at
+closed text out one two after n at to-number to-end a b fits p q r =
+    let second : two ≡ copied (text ++ decimal n) out at =
+    q ∙ ap (λ (l : List ℕ). copied (decimal n) l to-number) p ∙ copied-on text (decimal n) out at to-number (sym a) (omega arith) in
+    r ∙ ap (λ (l : List ℕ). copied (10 ∷ []) l to-end) second ∙ copied-on (text ++ decimal n) (10 ∷ []) out at to-end (omega (arith, length-append text (decimal n))) (omega arith)
 
--- a line from equal parts
-pub joins : {a b c x y z : List ℕ} → a ≡ x → b ≡ y → c ≡ z → joined a b c ≡ joined x y z
-joins {a} {b} {c} {x} {y} {z} p q r = ap (λ (l : List ℕ). joined l b c) p ∙ ap (λ (l : List ℕ). joined x l c) q ∙ ap (joined x y) r
+-- the line `cut`, or none of it
+pub cut-part : (cut : Bool) → partOf cutText 0 (length (cutFront cut)) ≡ cutFront cut
+cut-part true = refl
+cut-part false = refl
 
-pub framed-line : (n : ℕ) (j : Judged) → eqb (j .number) 0 ≡ true → joined (decimal n) (serviceText (j .service)) (decimal (j .total)) ≡ lineOf n j
+pub cut-most : (cut : Bool) → length (cutFront cut) ≤ 4
+cut-most true = omega arith
+cut-most false = omega arith
+
+pub framed-line : (n : ℕ) (j : Judged) → eqb (j .number) 0 ≡ true → numbered n (serviceText (j .service)) (j .total) ≡ lineOf n j
 framed-line n j e = rw e
 
-pub refused-line : (n : ℕ) (j : Judged) → eqb (j .number) 0 ≡ false → joined (decimal n) refusedText (decimal (j .number)) ≡ lineOf n j
+pub refused-line : (n : ℕ) (j : Judged) → eqb (j .number) 0 ≡ false → numbered n refusedText (j .number) ≡ lineOf n j
 refused-line n j e = rw e
 
 pub ending-one : (n : ℕ) (cut : Bool) (out : List ℕ) (r q : Written) (after later : List ℕ)

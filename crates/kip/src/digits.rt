@@ -1,30 +1,39 @@
 // Numbers as they are printed.
-ghost use Rattle.kip.specs.Digits.{DecimalPromise, HexDigitPromise, HexPromise};
+ghost use mathlib.Core.Path.{_≡_};
+ghost use Prim.Native.Nat.{_+_, _≤_};
+ghost use lib.ListN.{length};
+ghost use Rattle.wire.specs.Layout.{CopyPromise};
+ghost use Rattle.kip.specs.Digits.{decimal, PlacesPromise, HexDigitPromise, HexPromise};
 
-// The decimal digits stand at the end of the text, from `start` on.
-pub(crate) struct Decimal {
-    pub(crate) text: [u8; 20],
-    pub(crate) start: usize,
-}
-
-pub(crate) fn decimal_digits(n: u64) -> Decimal
-    ensures { λ r. ⌜ DecimalPromise n r ⌝ }
+// How many decimal digits a number has: the length of a line is known before a byte of it is written.
+pub(crate) fn places(n: u64) -> usize
+    ensures { λ r. ⌜ PlacesPromise n r ⌝ }
 {
-    let mut text = [48u8; 20];
-    if n == 0 {
-        return Decimal { text, start: 19 };
-    }
-    let mut start: usize = 20;
-    let mut rest = n;
-    while start > 0 {
-        if rest == 0 {
+    let mut count = 1;
+    let mut rest = n / 10;
+    while rest > 0 {
+        if count == 20 {
             break;
         }
-        start -= 1;
-        text[start] = 48 + (rest % 10) as u8;
+        rest /= 10;
+        count += 1;
+    }
+    count
+}
+
+// Stores the decimal digits where they stand in the line, the last one first.
+pub(crate) fn put_decimal(n: u64, out: &mut [u8], at: usize, end: usize)
+    requires { ⌜ end ≡ at + length (decimal n) ⌝ }
+    requires { ⌜ end ≤ length (now out) ⌝ }
+    ensures { λ _. ⌜ CopyPromise (decimal n) (now (out .entry)) at (now (out .exit)) ⌝ }
+{
+    let mut i = end;
+    let mut rest = n;
+    while i > at {
+        i -= 1;
+        out[i] = 48 + (rest % 10) as u8;
         rest /= 10;
     }
-    Decimal { text, start }
 }
 
 // Four upper-case digits.

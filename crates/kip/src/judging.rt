@@ -7,20 +7,20 @@ use frame::FrameFields;
 pub struct Judged {
     pub number: u8,
     pub service: u16,
-    pub total: u16,
+    pub total: usize,
 }
 
-// A record is refused by the frame checks alone. The service is read off the bytes, which costs less than by way of its name.
+// A record is refused by the frame checks alone. The service is read off the bytes, which costs less than by way of its name; the frame's own bytes may end before the record's.
 pub fn judge(bytes: &[u8]) -> Judged
     ensures { λ r. ⌜ JudgePromise (now (bytes .entry)) r ⌝ }
 {
     match FrameFields::parse(bytes) {
         FrameAnswer::Frame(frame) => {
-            let header = frame.header;
+            let own = frame.data(bytes);
             Judged {
                 number: 0,
                 service: wire::word_at(bytes, 2),
-                total: header.total_length,
+                total: own.end,
             }
         }
         FrameAnswer::Refused(why) => Judged {

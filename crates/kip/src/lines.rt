@@ -1,6 +1,10 @@
 // The line of a record.
-ghost use mathlib.Core.List.{_++_};
-ghost use Rattle.kip.specs.Line.{LinePromise, EndingPromise, JoinPromise};
+ghost use mathlib.Core.Path.{_≡_};
+ghost use Prim.Native.Nat.{_+_, _≤_};
+ghost use lib.ListN.{length};
+ghost use Rattle.wire.specs.Layout.{CopyPromise};
+ghost use Rattle.kip.specs.Digits.{decimal};
+ghost use Rattle.kip.specs.Line.{closing, LinePromise, EndingPromise, NumberedPromise, CutSizePromise};
 use crate::digits;
 use crate::judging::Judged;
 use wire::Refusal;
@@ -10,73 +14,61 @@ use wire::Written;
 pub fn line(n: u64, judged: Judged, out: &mut [u8]) -> Written
     ensures { λ r. ⌜ LinePromise n judged (now (out .entry)) r (now (out .exit)) ⌝ }
 {
-    let count = digits::decimal_digits(n);
-    let front = count.text;
     if judged.number == 0 {
         let service = digits::hex4(judged.service);
-        let middle = [b' ', service[0], service[1], service[2], service[3], b' '];
-        let total = digits::decimal_digits(judged.total as u64);
-        let back = total.text;
-        return join(
-            wire::part(&front, count.start, 20),
-            &middle,
-            wire::part(&back, total.start, 20),
-            out,
-        );
+        let text = [b' ', service[0], service[1], service[2], service[3], b' '];
+        return numbered(n, &text, judged.total as u64, out);
     }
-    let middle = [b' ', b'r', b'e', b'f', b'u', b's', b'e', b'd', b' '];
-    let number = digits::decimal_digits(judged.number as u64);
-    let back = number.text;
-    join(
-        wire::part(&front, count.start, 20),
-        &middle,
-        wire::part(&back, number.start, 20),
-        out,
-    )
+    let text = [b' ', b'r', b'e', b'f', b'u', b's', b'e', b'd', b' '];
+    numbered(n, &text, judged.number as u64, out)
+}
+
+// A number, then what closes the line.
+fn numbered(n: u64, text: &[u8], last: u64, out: &mut [u8]) -> Written
+    requires { ⌜ length (now text) ≤ 9 ⌝ }
+    ensures { λ r. ⌜ NumberedPromise n (now (text .entry)) last (now (out .entry)) r (now (out .exit)) ⌝ }
+{
+    let to_text = digits::places(n);
+    let to_end = to_text + text.len() + digits::places(last);
+    if out.len() < to_end + 1 {
+        return Written::Refused(Refusal::BufferTooSmall);
+    }
+    digits::put_decimal(n, out, 0, to_text);
+    close(text, last, out, to_text, to_end);
+    Written::Bytes(to_end + 1)
 }
 
 // The last lines: `cut` where a record is unfinished, and how many whole ones there were.
 pub fn ending(n: u64, cut: bool, out: &mut [u8]) -> Written
     ensures { λ r. ⌜ EndingPromise n cut (now (out .entry)) r (now (out .exit)) ⌝ }
 {
-    let count = digits::decimal_digits(n);
-    let back = count.text;
-    let middle = [b'r', b'e', b'c', b'o', b'r', b'd', b's', b' '];
     let front = [b'c', b'u', b't', b'\n'];
-    if cut {
-        return join(&front, &middle, wire::part(&back, count.start, 20), out);
+    let text = [b'r', b'e', b'c', b'o', b'r', b'd', b's', b' '];
+    let to_text = cut_size(cut);
+    let to_end = to_text + 8 + digits::places(n);
+    if out.len() < to_end + 1 {
+        return Written::Refused(Refusal::BufferTooSmall);
     }
-    join(
-        wire::part(&front, 0, 0),
-        &middle,
-        wire::part(&back, count.start, 20),
-        out,
-    )
+    wire::copy_at(wire::part(&front, 0, to_text), out, 0);
+    close(&text, n, out, to_text, to_end);
+    Written::Bytes(to_end + 1)
 }
 
-// Three parts and a line feed.
-fn join(a: &[u8], b: &[u8], c: &[u8], out: &mut [u8]) -> Written
-    ensures { λ r. ⌜ JoinPromise (now (a .entry)) (now (b .entry)) (now (c .entry)) (now (out .entry)) r (now (out .exit)) ⌝ }
+fn cut_size(cut: bool) -> usize
+    ensures { λ r. ⌜ CutSizePromise cut r ⌝ }
 {
-    if out.len() < a.len() {
-        return Written::Refused(Refusal::BufferTooSmall);
-    }
-    if out.len() - a.len() < b.len() {
-        return Written::Refused(Refusal::BufferTooSmall);
-    }
-    if out.len() - a.len() - b.len() < c.len() {
-        return Written::Refused(Refusal::BufferTooSmall);
-    }
-    if out.len() - a.len() - b.len() - c.len() < 1 {
-        return Written::Refused(Refusal::BufferTooSmall);
-    }
+    if cut { 4 } else { 0 }
+}
+
+// A text, a number and a line feed, from a place on.
+fn close(text: &[u8], n: u64, out: &mut [u8], at: usize, feed: usize)
+    requires { ⌜ feed ≡ at + length (now text) + length (decimal n) ⌝ }
+    requires { ⌜ feed + 1 ≤ length (now out) ⌝ }
+    ensures { λ _. ⌜ CopyPromise (closing (now (text .entry)) n) (now (out .entry)) at (now (out .exit)) ⌝ }
+{
     let end = [b'\n'];
-    let to_b = a.len();
-    let to_c = to_b + b.len();
-    let to_end = to_c + c.len();
-    wire::copy_at(a, out, 0);
-    wire::copy_at(b, out, to_b);
-    wire::copy_at(c, out, to_c);
-    wire::copy_at(&end, out, to_end);
-    Written::Bytes(to_end + 1)
+    let to_number = at + text.len();
+    wire::copy_at(text, out, at);
+    digits::put_decimal(n, out, to_number, feed);
+    wire::copy_at(&end, out, feed);
 }

@@ -136,16 +136,34 @@ get-put (run n ∷ fs) vs pre rest at e q =
 pub paste-front : (b w : List ℕ) → paste b 0 w (length w) ≡ w ++ drop (length w) b
 paste-front b w = rw (take-length w, zero-add (length w))
 
+-- what is copied stands between what was there
+pub copied-is : (w b : List ℕ) (at to : ℕ) → at + length w ≡ to → to ≤ length b → copied w b at ≡ take at b ++ w ++ drop to b
+copied-is w b at to e h = rw (← e, le-leb (at + length w) (length b) (omega arith))
+
 -- what is copied to the start is written there
 pub copied-front : (w b : List ℕ) → length w ≤ length b → copied w b 0 ≡ onto b w
 copied-front w b h = simp (le-leb (length w) (length b) h, zero-add (length w))
 
+-- what is copied right behind the front of a buffer
+copied-over : (w rest src : List ℕ) (at : ℕ) → length w ≡ at → length src ≤ length rest → copied src (w ++ rest) at ≡ w ++ src ++ drop (length src) rest
+copied-over w rest src at e h =
+    let fits : length w + length src ≤ length (w ++ rest) = simp length-append (omega arith) in
+    rw (← e, le-leb (length w + length src) (length (w ++ rest)) fits, take-append-seam w rest, drop-append-add w rest (length src))
+
 -- what is copied right behind what was written is written with it
 pub copied-behind : (w src b : List ℕ) (at : ℕ) → length w ≡ at → at + length src ≤ length b → copied src (onto b w) at ≡ onto b (w ++ src)
 copied-behind w src b at e h =
-    let rest : List ℕ = drop (length w) b in
-    let fits : length w + length src ≤ length (w ++ rest) = simp (length-append, length-drop) (omega arith) in
-    rw (← e, le-leb (length w + length src) (length (w ++ rest)) fits, take-append-seam w rest, drop-append-add w rest (length src), drop-drop (length src) (length w) b, length-append w src)
+    let x = copied-over w (drop (length w) b) src at e (omega (arith, length-drop (length w) b)) in
+    x ∙ rw (drop-drop (length src) (length w) b, length-append w src)
+
+-- what is copied right behind what was copied is copied with it
+pub copied-on : (a src b : List ℕ) (at to : ℕ) → at + length a ≡ to → to + length src ≤ length b → copied src (copied a b at) to ≡ copied (a ++ src) b at
+copied-on a src b at to e h =
+    let front : List ℕ = take at b in
+    let long : length (front ++ a) ≡ to = length-append front a ∙ omega (arith, length-take-le at b (omega arith)) in
+    ap (λ (l : List ℕ). copied src l to) (copied-is a b at to e (omega arith)) ∙ copied-over (front ++ a) (drop to b) src to long (omega (arith, length-drop to b))
+    ∙ ap (λ (l : List ℕ). front ++ a ++ src ++ l) (drop-drop (length src) to b) ∙ ap (λ (l : List ℕ). l ++ drop (to + length src) b) (append-assoc front a src)
+    ∙ sym (copied-is (a ++ src) b at (to + length src) (omega (arith, length-append a src)) h)
 
 pub length-three : (a b c : List ℕ) → length (a ++ b ++ c) ≡ length a + length b + length c
 length-three a b c = length-append (a ++ b) c ∙ ap (λ (k : ℕ). k + length c) (length-append a b)
