@@ -1,0 +1,26 @@
+-- What a record that holds its slice holds: the bytes that were parsed, none where the parse refused. Assumes nothing.
+use Prim.Native.Nat.{ℕ}
+use native.Mathlib.Omega.{arith}
+use mathlib.Core.Path.{_≡_, sym, ap}
+use mathlib.Core.List.{List, []}
+use Rattle.wire.specs.Told.{Told, refused, Check, verdict, judged}
+use Rattle.wire.specs.ToldLaws.{was-accepted, was-refused}
+use Rattle.wire.specs.Parts.{partOf}
+use Rattle.wire.specs.PartLaws.{part-is}
+use Rattle.wire.specs.declared.refusals.Refusal.{Refusal}
+use Rattle.wire.specs.declared.refusals.Verdict.{Verdict}
+use Rattle.wire.specs.declared.refusals.Verdict.the-variants.{Accept, Refuse}
+
+abbrev pub kept : Verdict → List ℕ → List ℕ
+kept Accept s = s
+kept (Refuse e) s = []
+
+-- a parse that answered keeps the bytes; one that refused keeps none
+pub kept-all : (cs : List Check) (t u : Told) (s : List ℕ) → u .number ≡ 0 → u ≡ judged cs t → s ≡ kept (verdict cs) s
+kept-all cs t u s z q = sym (ap (λ (v : Verdict). kept v s) (was-accepted cs t u z q))
+
+pub kept-none : (cs : List Check) (t : Told) (k : ℕ) (e : Refusal) (s : List ℕ) → t .number ≡ 0 → refused k e ≡ judged cs t → [] ≡ kept (verdict cs) s
+kept-none cs t k e s z q = sym (ap (λ (v : Verdict). kept v s) (was-refused cs t k e z q))
+
+pub empty-part : (s : List ℕ) → partOf s 0 0 ≡ []
+empty-part s = part-is s 0 0 (omega arith) (omega arith)

@@ -1,0 +1,39 @@
+-- `KnxnetIpFrame`: the datagram's bytes beside what parsing it answered, over the definitions that the field record's functions promise. Assumes nothing.
+use Prim.Native.Nat.{ℕ}
+use mathlib.Core.Path.{_≡_}
+use mathlib.Core.List.{List, []}
+use lib.ListN.{length}
+use denote.Ref.{now}
+use Rattle.wire.specs.Told.{viewed, verdict, judged}
+use Rattle.wire.specs.Layout.{get}
+use Rattle.wire.specs.Parts.{shown}
+use Rattle.header.specs.Header.{fields, totalIn}
+use Rattle.frame.specs.Frame as Frame
+use Rattle.frame.specs.declared.fields.FrameAnswer.{FrameAnswer}
+use Rattle.frame.specs.declared.fields.FrameAnswer.the-variants.{Frame, Refused}
+use Rattle.views.specs.Kept.{kept}
+use Rattle.views.specs.declared.knxnet_ip.KnxnetIpFrame.{KnxnetIpFrame}
+
+abbrev pub heldIn : List ℕ → List ℕ
+heldIn s = kept (verdict (Frame.checks (length s) (get fields 0 s))) s
+
+abbrev pub HeldPromise : List ℕ → List ℕ → Type 0
+HeldPromise s r = r ≡ heldIn s
+
+abbrev pub ParsePromise : List ℕ → KnxnetIpFrame → Type 0
+ParsePromise s r = HeldPromise s (now (r .«data»)) × Frame.ParsePromise s (r .answer)
+
+-- the body by a record's header, none where the parse refused
+abbrev pub bodyOf : FrameAnswer → List ℕ → List ℕ
+bodyOf (Frame f) s = shown s (Frame.bodyBy01 f s)
+bodyOf (Refused e) s = []
+
+abbrev pub BodyOfPromise : List ℕ → FrameAnswer → List ℕ → Type 0
+BodyOfPromise s a r = r ≡ bodyOf a s
+
+abbrev pub BodyPromise : KnxnetIpFrame → List ℕ → Type 0
+BodyPromise f r = BodyOfPromise (now (f .«data»)) (f .answer) r
+
+-- the body of a datagram: from offset 6 to the total length
+abbrev pub BodyInPromise : List ℕ → List ℕ → Type 0
+BodyInPromise s r = r ≡ shown s (judged (Frame.checks (length s) (get fields 0 s)) (viewed 6 (totalIn (get fields 0 s))))

@@ -1,0 +1,34 @@
+-- The body of what parsing a datagram holds is the datagram's body; no second answer. Assumes nothing.
+use Prim.Native.Nat.{ℕ}
+use mathlib.Core.Path.{_≡_, refl, sym, ap, _∙_}
+use mathlib.Core.List.{List}
+use lib.ListN.{length}
+use denote.Ref.{now}
+use Rattle.wire.specs.Told.{Told, done, viewed, Check, verdict, judged}
+use Rattle.wire.specs.ToldLaws.{let-refuse, let-through, was-refused}
+use Rattle.wire.specs.Layout.{get}
+use Rattle.wire.specs.Parts.{shown}
+use Rattle.header.specs.Header.{fields, totalIn}
+use Rattle.frame.specs.Frame as Frame
+use Rattle.frame.specs.declared.fields.FrameAnswer.{FrameAnswer}
+use Rattle.frame.specs.declared.fields.FrameAnswer.the-variants.{Frame, Refused}
+use Rattle.views.specs.Kept.{kept, kept-all, empty-part}
+use Rattle.views.specs.KnxnetIp.{ParsePromise, bodyOf, BodyPromise, BodyInPromise}
+use Rattle.views.specs.declared.knxnet_ip.KnxnetIpFrame.{KnxnetIpFrame}
+
+module _ (s : List ℕ) where
+  abbrev cs : List Check
+  cs = Frame.checks (length s) (get fields 0 s)
+
+  abbrev told : Told
+  told = done (get fields 0 s)
+
+  body-of : (a : FrameAnswer) (held : List ℕ) → held ≡ kept (verdict cs) s → Frame.ParsePromise s a → bodyOf a held ≡ shown s (judged cs (viewed 6 (totalIn (get fields 0 s))))
+  body-of (Frame f) held h p =
+      let same = let-through cs told (Frame.told (Frame f)) refl p in
+      ap (bodyOf (Frame f)) (h ∙ sym (kept-all cs told (Frame.told (Frame f)) s refl p))
+      ∙ ap (λ (u : Told). shown s (judged (Frame.checks (length s) (u .values)) (viewed 6 (totalIn (u .values))))) same
+  body-of (Refused e) held h p = sym (ap (shown s) (let-refuse cs (viewed 6 (totalIn (get fields 0 s))) e (was-refused cs told 4 e refl p)) ∙ empty-part s)
+
+pub body-in : (s : List ℕ) (f : KnxnetIpFrame) (r : List ℕ) → ParsePromise s f → BodyPromise f r → BodyInPromise s r
+body-in s f r p q = q ∙ body-of s (f .answer) (now (f .«data»)) (p .0) (p .1)

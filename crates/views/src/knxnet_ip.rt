@@ -1,0 +1,52 @@
+// A frame that holds its bytes.
+ghost use Rattle.views.specs.KnxnetIp.{HeldPromise, ParsePromise, BodyOfPromise, BodyPromise, BodyInPromise};
+use frame::FrameAnswer;
+use frame::FrameFields;
+
+// The bytes of the datagram, none where it is refused, and what parsing it answered.
+pub struct KnxnetIpFrame<'a> {
+    pub data: &'a [u8],
+    pub answer: FrameAnswer,
+}
+
+impl<'a> KnxnetIpFrame<'a> {
+    pub fn parse(data: &'a [u8]) -> KnxnetIpFrame<'a>
+        ensures { λ r. ⌜ ParsePromise (now («data» .entry)) r ⌝ }
+    {
+        KnxnetIpFrame {
+            data: held(data),
+            answer: FrameFields::parse(data),
+        }
+    }
+
+    pub fn body(self) -> &'a [u8]
+        ensures { λ r. ⌜ BodyPromise (self .entry) (now r) ⌝ }
+    {
+        body_of(self.data, self.answer)
+    }
+}
+
+// The body of a datagram, for a caller that holds no frame.
+pub fn body_in(datagram: &[u8]) -> &[u8]
+    ensures { λ r. ⌜ BodyInPromise (now (datagram .entry)) (now r) ⌝ }
+{
+    KnxnetIpFrame::parse(datagram).body()
+}
+
+fn held(data: &[u8]) -> &[u8]
+    ensures { λ r. ⌜ HeldPromise (now («data» .entry)) (now r) ⌝ }
+{
+    match FrameFields::parse(data) {
+        FrameAnswer::Frame(_) => data,
+        FrameAnswer::Refused(_) => wire::part(data, 0, 0),
+    }
+}
+
+fn body_of(data: &[u8], answer: FrameAnswer) -> &[u8]
+    ensures { λ r. ⌜ BodyOfPromise (now («data» .entry)) answer (now r) ⌝ }
+{
+    match answer {
+        FrameAnswer::Frame(frame) => frame.body_part(data),
+        FrameAnswer::Refused(_) => wire::part(data, 0, 0),
+    }
+}
