@@ -1,4 +1,4 @@
--- Demand 1: a number other than 0 is one of 1 to 13, comes with zeros and an empty view, and changes no lent byte. One line for each public function that can refuse, over the promise that its contract names. That nothing faults, wraps or hangs is the gate's verdict on functions without a `requires`.
+-- Demand 1: a number other than 0 is one of 1 to 13, comes with zeros and an empty view, and changes no lent byte. One theorem for each public function that can refuse, under its name, over the promise that its contract names; at the end the functions that refuse nothing. That nothing faults, wraps or hangs is the gate's verdict on functions without a `requires`.
 use Prim.Native.Nat.{ℕ, _+_}
 use mathlib.Core.Path.{_≡_, refl, _∙_}
 use mathlib.Core.List.{List, [], _∷_, _++_}
@@ -11,7 +11,7 @@ use Rattle.wire.specs.Parts as Parts
 use Rattle.wire.specs.PartLaws.{shown-refused}
 use Rattle.wire.specs.declared.refusals.Refusal.{Refusal}
 use Rattle.wire.specs.declared.refusals.Verdict.the-variants.{Refuse}
-use Rattle.wire.specs.Refusing.{Zeros, Refusing, Leaves, judged-refusing, writes-refusing}
+use Rattle.wire.specs.Refusing.{Zeros, Refusing, Leaves, refused-zeros, judged-refusing, writes-refusing}
 use Rattle.wire.specs.declared.refusals.Written.{Written}
 use Rattle.wire.specs.declared.parts.View.{View}
 use Rattle.constants.specs.Services.{serviceCheck, codeOf}
@@ -68,6 +68,22 @@ use mathlib.Core.Bool.{Bool}
 use Rattle.kip.specs.Judge as Judge
 use Rattle.kip.specs.Line as Line
 use Rattle.kip.specs.declared.judging.Judged.{Judged}
+use denote.Ref.{now}
+use Rattle.datagram.specs.Heard as Heard
+use Rattle.datagram.specs.HeardLaws as HeardLaws
+use Rattle.datagram.specs.declared.Heard.{Heard}
+use Rattle.tunnel.specs.Rules as Rules
+use Rattle.tunnel.specs.RuleLaws as RuleLaws
+use Rattle.tunnel.specs.declared.Tunnel.{Tunnel}
+use Rattle.tunnel.specs.declared.Stepped.{Stepped}
+use Rattle.frame.specs.declared.fields.FrameAnswer.the-variants as FA
+use Rattle.ldata.specs.declared.fields.LDataAnswer.the-variants as LA
+use Rattle.views.specs.KnxnetIp as KnxnetIp
+use Rattle.views.specs.KnxnetIpLaws as KnxnetIpLaws
+use Rattle.views.specs.LData as LDataView
+use Rattle.views.specs.LDataLaws as LDataViewLaws
+use Rattle.views.specs.declared.knxnet_ip.KnxnetIpFrame.{KnxnetIpFrame}
+use Rattle.views.specs.declared.l_data.LDataFrame.{LDataFrame}
 use Rattle.table.specs.Table.{CallPromise}
 use Rattle.table.specs.Table as Table
 use Rattle.table.specs.Compiled as Compiled
@@ -76,162 +92,341 @@ use Rattle.table.specs.declared.calls.Called.{Called}
 
 -- ---- wire
 
+-- wire::View::refused
+pub view-refused : (e : Refusal) (r : View) → Parts.RefusedPromise e r → Zeros (Parts.told r)
+view-refused e r p = rw p (refused-zeros 0 e)
+
+-- wire::write
 pub write : (w b : List ℕ) (r : Written) (after : List ℕ) → WritePromise w b r after → Refusing (Written.told r) × Leaves (Written.told r) b after
 write w b = writes-refusing (room (length w) (length b) ∷ []) w b
 
 -- ---- constants
 
+-- constants::ServiceType::from_u16
 pub service-from : (code : ℕ) (r : ServiceAnswer) → Services.FromPromise code r → Refusing (Services.told r)
 service-from code r = judged-refusing (serviceCheck code ∷ []) (done (code ∷ [])) (Services.told r) refl
 
+-- constants::CEMIMessageCode::from_u8
 pub message-code-from : (n : ℕ) (r : CEMIMessageCodeAnswer) → MessageCodes.FromPromise n r → Refusing (MessageCodes.told r)
 message-code-from n r = judged-refusing (check MessageCodes.messageCodes n ∷ []) (done (n ∷ [])) (MessageCodes.told r) refl
 
 -- ---- ldata
 
+-- ldata::LDataFields::parse
 pub ldata-parse : (s : List ℕ) (r : LDataAnswer) → LData.ParsePromise s r → Refusing (LData.told r)
 ldata-parse s r = judged-refusing (LData.byteChecks crateCount s) (done (LData.held s)) (LData.told r) refl
 
+-- ldata::LDataFields::data
 pub ldata-data : (f : LDataFields) (s : List ℕ) (r : View) → LData.DataPromise f s r → Refusing (Parts.told r)
 ldata-data f s r =
     judged-refusing (LData.recordChecks crateCount f (length s)) (viewed (startOf (isData (f .tpci))) (crateCount .endOf (f .«npdu_length»))) (Parts.told r) refl
 
+-- ldata::LDataFields::data_part
 pub ldata-data-part : (f : LDataFields) (s r : List ℕ) (e : Refusal) → LData.DataPartPromise f s r → verdict (LData.recordChecks crateCount f (length s)) ≡ Refuse e → r ≡ []
 ldata-data-part f s r e p q =
     p ∙ shown-refused (LData.recordChecks crateCount f (length s)) (viewed (startOf (isData (f .tpci))) (crateCount .endOf (f .«npdu_length»))) e s q
 
+-- ldata::LDataBuilder::build
 pub ldata-build : (b : LDataBuilder) (d buf : List ℕ) (r : Written) (after : List ℕ)
     → LDataBuilder.BuildPromise b d buf r after → Refusing (Written.told r) × Leaves (Written.told r) buf after
 ldata-build b d buf = writes-refusing (LDataBuilder.checks b (length d) (length buf)) (LDataBuilder.layout b (length d + 2) d) buf
 
 -- ---- cemi
 
+-- cemi::CEMIFrame::parse
 pub cemi-parse : (s : List ℕ) (r : CEMIAnswer) → Cemi.ParsePromise s r → Refusing (Cemi.told r)
 cemi-parse s r = judged-refusing (Cemi.checks s) (done (Cemi.codeIn s ∷ [])) (Cemi.told r) refl
 
+-- cemi::CEMIFrame::additional_info_length
 pub cemi-info-length : (s : List ℕ) (r : InfoLengthAnswer) → Cemi.InfoLengthPromise s r → Refusing (Cemi.toldLength r)
 cemi-info-length s r = judged-refusing (Cemi.checks s) (done (Cemi.infoLength s ∷ [])) (Cemi.toldLength r) refl
 
+-- cemi::CEMIFrame::service_info
 pub cemi-service-info : (s : List ℕ) (r : View) → Cemi.ServiceInfoPromise s r → Refusing (Parts.told r)
 cemi-service-info s r = judged-refusing (Cemi.checks s ++ Cemi.infoCheck s ∷ []) (viewed (2 + Cemi.infoLength s) (length s)) (Parts.told r) refl
 
+-- cemi::CEMIFrame::service_info_part
 pub cemi-service-info-part : (s r : List ℕ) (e : Refusal) → Cemi.ServiceInfoPartPromise s r → verdict (Cemi.checks s ++ Cemi.infoCheck s ∷ []) ≡ Refuse e → r ≡ []
 cemi-service-info-part s r e p q = p ∙ shown-refused (Cemi.checks s ++ Cemi.infoCheck s ∷ []) (viewed (2 + Cemi.infoLength s) (length s)) e s q
 
+-- cemi::CEMIFrame::as_ldata
 pub cemi-as-ldata : (f : CEMIFrame) (s : List ℕ) (r : LDataAnswer) → Cemi.AsLDataPromise f s r → Refusing (LData.told r)
 cemi-as-ldata f s r =
     judged-refusing (Cemi.checks s ++ Cemi.ldataChecks f s ++ LData.byteChecks crateCount (Cemi.serviceInfo s)) (done (LData.held (Cemi.serviceInfo s))) (LData.told r) refl
 
 -- ---- header
 
+-- header::KnxnetIpHeader::new
 pub header-new : (s : ServiceType) (n : ℕ) (r : HeaderAnswer) → Header.NewPromise s n r → Refusing (Header.told r)
 header-new s n r = judged-refusing (Header.newChecks n) (done (Header.made s n)) (Header.told r) refl
 
+-- header::KnxnetIpHeader::parse
 pub header-parse : (s : List ℕ) (r : HeaderAnswer) → Header.ParsePromise s r → Refusing (Header.told r)
 header-parse s r = judged-refusing (Header.checks (length s) (get Header.fields 0 s)) (done (get Header.fields 0 s)) (Header.told r) refl
 
+-- header::KnxnetIpHeader::encode
 pub header-encode : (h : KnxnetIpHeader) (b : List ℕ) (r : Written) (after : List ℕ) → Header.EncodePromise h b r after → Refusing (Written.told r) × Leaves (Written.told r) b after
 header-encode h b = writes-refusing (Header.encodeChecks (length b)) (Header.layout h) b
 
 -- ---- frame
 
+-- frame::FrameFields::parse
 pub frame-parse : (s : List ℕ) (r : FrameAnswer) → Frame.ParsePromise s r → Refusing (Frame.told r)
 frame-parse s r = judged-refusing (Frame.checks (length s) (get Header.fields 0 s)) (done (get Header.fields 0 s)) (Frame.told r) refl
 
+-- frame::FrameFields::header
 pub frame-header : (f : FrameFields) (s : List ℕ) (r : HeaderAnswer) → Frame.HeaderPromise f s r → Refusing (Header.told r)
 frame-header f s r = judged-refusing (Frame.recordChecks f (length s)) (done (Header.values (f .header))) (Header.told r) refl
 
+-- frame::FrameFields::service_type
 pub frame-service-type : (f : FrameFields) (s : List ℕ) (r : ServiceAnswer) → Frame.ServiceTypePromise f s r → Refusing (Services.told r)
 frame-service-type f s r = judged-refusing (Frame.recordChecks f (length s)) (done (codeOf (f .header .«service_type») ∷ [])) (Services.told r) refl
 
+-- frame::FrameFields::body
 pub frame-body : (f : FrameFields) (s : List ℕ) (r : View) → Frame.BodyPromise f s r → Refusing (Parts.told r)
 frame-body f s r = judged-refusing (Frame.recordChecks f (length s)) (viewed 6 (f .header .«total_length»)) (Parts.told r) refl
 
+-- frame::FrameFields::data
 pub frame-data : (f : FrameFields) (s : List ℕ) (r : View) → Frame.DataPromise f s r → Refusing (Parts.told r)
 frame-data f s r = judged-refusing (Frame.recordChecks f (length s)) (viewed 0 (f .header .«total_length»)) (Parts.told r) refl
 
--- of a refused frame an empty part is handed out
+-- frame::FrameFields::body_part
 pub frame-body-part : (f : FrameFields) (s r : List ℕ) (e : Refusal) → verdict (Frame.recordChecks f (length s)) ≡ Refuse e → Frame.BodyPartPromise f s r → r ≡ []
 frame-body-part f s r e v q = q ∙ shown-refused (Frame.recordChecks f (length s)) (viewed 6 (f .header .«total_length»)) e s v
 
+-- frame::FrameFields::data_part
 pub frame-data-part : (f : FrameFields) (s r : List ℕ) (e : Refusal) → verdict (Frame.recordChecks f (length s)) ≡ Refuse e → Frame.DataPartPromise f s r → r ≡ []
 frame-data-part f s r e v q = q ∙ shown-refused (Frame.recordChecks f (length s)) (viewed 0 (f .header .«total_length»)) e s v
 
+-- frame::FrameBuilder::build
 pub frame-build : (f : FrameBuilder) (body b : List ℕ) (r : Written) (after : List ℕ) → Builder.BuildPromise f body b r after → Refusing (Written.told r) × Leaves (Written.told r) b after
 frame-build f body b = writes-refusing (Builder.checks (length body) (length b)) (Builder.frame (f .«service_type») body) b
 
+-- frame::write_frame
+-- frame::write_frame2
+-- frame::write_frame3
 pub frame-write : (s : ServiceType) (body b : List ℕ) (r : Written) (after : List ℕ) → Builder.WriteFramePromise s body b r after → Refusing (Written.told r) × Leaves (Written.told r) b after
 frame-write s body b = writes-refusing (Builder.frameChecks (length body) (length b)) (Builder.frame s body) b
 
 -- ---- hpai
 
+-- hpai::Hpai::parse
 pub hpai-parse : (s : List ℕ) (r : HpaiAnswer) → Hpai.ParsePromise s r → Refusing (Hpai.told r)
 hpai-parse s r = judged-refusing (Hpai.checks (length s) (get Hpai.fields 0 s)) (done (get Hpai.fields 0 s)) (Hpai.told r) refl
 
+-- hpai::Hpai::encode
 pub hpai-encode : (h : Hpai) (b : List ℕ) (r : Written) (after : List ℕ) → Hpai.EncodePromise h b r after → Refusing (Written.told r) × Leaves (Written.told r) b after
 hpai-encode h b = writes-refusing (Hpai.encodeChecks (length b)) (Hpai.layout h) b
 
 -- ---- connect
 
+-- connect::ConnectionRequestInfo::encode
 pub cri-encode : (c : ConnectionRequestInfo) (b : List ℕ) (r : Written) (after : List ℕ) → Cri.EncodePromise c b r after → Refusing (Written.told r) × Leaves (Written.told r) b after
 cri-encode c b = writes-refusing (Cri.encodeChecks (length b)) (Cri.layout c) b
 
+-- connect::ConnectionRequestInfo::decode
 pub cri-decode : (s : List ℕ) (r : ConnectionRequestInfoAnswer) → Cri.DecodePromise s r → Refusing (Cri.told r)
 cri-decode s r = judged-refusing (Cri.checks (length s) (get Cri.fields 0 s)) (done (Cri.held (get Cri.fields 0 s))) (Cri.told r) refl
 
+-- connect::ConnectRequest::build
 pub connect-request-build : (q : ConnectRequest) (b : List ℕ) (r : Written) (after : List ℕ) → ConnectReq.BuildPromise q b r after → Refusing (Written.told r) × Leaves (Written.told r) b after
 connect-request-build q b = writes-refusing (ConnectReq.buildChecks (length b)) (Builder.frame S.ConnectRequest (ConnectReq.layout q)) b
 
+-- connect::ConnectResponse::parse
 pub connect-response-parse : (s : List ℕ) (r : ConnectResponseAnswer) → ConnectRes.ParsePromise s r → Refusing (ConnectRes.told r)
 connect-response-parse s r p = judged-refusing (ConnectRes.checks (length s) (get ConnectRes.fields 0 s)) (done (get ConnectRes.fields 0 s)) (ConnectRes.told r) refl (p .0)
 
--- connection state and disconnect, for either service
+-- connect::ConnectionStateRequest::build
+-- connect::DisconnectRequest::build
 pub channel-request : (s : ServiceType) (channel : ℕ) (h : Hpai) (b : List ℕ) (r : Written) (after : List ℕ)
     → Channel.RequestPromise s channel h b r after → Refusing (Written.told r) × Leaves (Written.told r) b after
 channel-request s channel h b = writes-refusing (Channel.requestChecks (length b)) (Builder.frame s (Channel.requestLayout channel h)) b
 
+-- connect::ConnectionStateResponse::parse
 pub state-response-parse : (s : List ℕ) (r : ConnectionStateAnswer) → Channel.StateParsePromise s r → Refusing (Channel.toldState r)
 state-response-parse s r = judged-refusing (Channel.statusChecks (length s)) (done (get Channel.statusFields 0 s)) (Channel.toldState r) refl
 
+-- connect::DisconnectResponse::parse
 pub disconnect-response-parse : (s : List ℕ) (r : DisconnectAnswer) → Channel.DisconnectParsePromise s r → Refusing (Channel.toldDisconnect r)
 disconnect-response-parse s r = judged-refusing (Channel.statusChecks (length s)) (done (get Channel.statusFields 0 s)) (Channel.toldDisconnect r) refl
 
 -- ---- tunnelling
 
+-- tunnelling::ConnectionHeader::encode
 pub connection-header-encode : (h : ConnectionHeader) (b : List ℕ) (r : Written) (after : List ℕ) → Connection.EncodePromise h b r after → Refusing (Written.told r) × Leaves (Written.told r) b after
 connection-header-encode h b = writes-refusing (Connection.encodeChecks (length b)) (Connection.layout h) b
 
+-- tunnelling::ConnectionHeader::decode
 pub connection-header-decode : (s : List ℕ) (r : ConnectionHeaderAnswer) → Connection.DecodePromise s r → Refusing (Connection.told r)
 connection-header-decode s r = judged-refusing (Connection.checks (length s)) (done (Connection.held (get Connection.fields 0 s))) (Connection.told r) refl
 
+-- tunnelling::TunnelingRequest::build
 pub tunnel-request-build : (t : TunnelingRequest) (cemi b : List ℕ) (r : Written) (after : List ℕ) → TunnelReq.BuildPromise t cemi b r after → Refusing (Written.told r) × Leaves (Written.told r) b after
 tunnel-request-build t cemi b = writes-refusing (TunnelReq.buildChecks (length cemi) (length b)) (Builder.frame S.TunnellingRequest (TunnelReq.body (t .«connection_header») cemi)) b
 
+-- tunnelling::TunnelingRequest::parse
 pub tunnel-request-parse : (s : List ℕ) (r : TunnelingRequestAnswer) → TunnelReq.ParsePromise s r → Refusing (TunnelReq.told r)
 tunnel-request-parse s r = judged-refusing (Connection.checks (length s)) (done (Connection.held (get Connection.fields 0 s))) (TunnelReq.told r) refl
 
+-- tunnelling::TunnelingRequest::cemi_data
 pub tunnel-request-cemi : (s : List ℕ) (r : View) → TunnelReq.CemiDataPromise s r → Refusing (Parts.told r)
 tunnel-request-cemi s r = judged-refusing (Connection.checks (length s)) (viewed 4 (length s)) (Parts.told r) refl
 
+-- tunnelling::TunnelingRequest::cemi_part
+pub tunnel-request-cemi-part : (s r : List ℕ) (e : Refusal) → verdict (Connection.checks (length s)) ≡ Refuse e → TunnelReq.CemiPartPromise s r → r ≡ []
+tunnel-request-cemi-part s r e v q = q ∙ shown-refused (Connection.checks (length s)) (viewed 4 (length s)) e s v
+
+-- tunnelling::TunnelingAck::build
 pub ack-build : (a : TunnelingAck) (b : List ℕ) (r : Written) (after : List ℕ) → Ack.BuildPromise a b r after → Refusing (Written.told r) × Leaves (Written.told r) b after
 ack-build a b = writes-refusing (Ack.buildChecks (length b)) (Builder.frame S.TunnellingAck (Ack.layout a)) b
 
+-- tunnelling::TunnelingAck::parse
 pub ack-parse : (s : List ℕ) (r : TunnelingAckAnswer) → Ack.ParsePromise s r → Refusing (Ack.told r)
 ack-parse s r = judged-refusing (Ack.checks (length s)) (done (Ack.held (get Ack.fields 0 s))) (Ack.told r) refl
 
+-- ---- datagram
+
+-- datagram::hear
+pub datagram-hear : (s : List ℕ) (r : Heard) → Heard.HearPromise s r → Refusing (Heard.told r)
+datagram-hear s r p = HeardLaws.heard-refusing r
+
+-- ---- tunnel: a refusal is 11, says nothing and leaves the tunnel
+
+-- tunnel::Tunnel::timeout
+pub tunnel-timeout : (t : Tunnel) (r : Stepped) → Rules.TimeoutPromise t r → (r .number ≡ 0 → ⊥) → RuleLaws.Unmoved t r
+tunnel-timeout = RuleLaws.timeout-refusing
+
+-- tunnel::Tunnel::acknowledged
+pub tunnel-acknowledged : (t : Tunnel) (n status : ℕ) (r : Stepped) → Rules.AcknowledgedPromise t n status r → r .number ≡ 0
+tunnel-acknowledged = RuleLaws.acknowledged-done
+
 -- ---- kip
 
+-- kip::judge
 pub kip-judge : (s : List ℕ) (r : Judged) → Judge.JudgePromise s r → Refusing (Judge.told r)
 kip-judge s r = judged-refusing (Frame.checks (length s) (get Header.fields 0 s)) (done (Header.serviceIn (get Header.fields 0 s) ∷ Header.totalIn (get Header.fields 0 s) ∷ [])) (Judge.told r) refl
 
+-- kip::line
 pub kip-line : (n : ℕ) (j : Judged) (out : List ℕ) (r : Written) (after : List ℕ) → Line.LinePromise n j out r after → Refusing (Written.told r) × Leaves (Written.told r) out after
 kip-line n j out = writes-refusing (room (length (Line.lineOf n j)) (length out) ∷ []) (Line.lineOf n j) out
 
+-- kip::ending
 pub kip-ending : (n : ℕ) (cut : Bool) (out : List ℕ) (r : Written) (after : List ℕ) → Line.EndingPromise n cut out r after → Refusing (Written.told r) × Leaves (Written.told r) out after
 kip-ending n cut out = writes-refusing (room (length (Line.endingOf n cut)) (length out) ∷ []) (Line.endingOf n cut) out
 
--- ---- table: every call, the five of them alike; what is not changed is the output and the table
+-- ---- table: the five calls alike; what a refusal leaves is the output and the table
 
+-- table::Table::open
+-- table::Table::close
+-- table::Table::timeout
+-- table::Table::send
+-- table::Table::datagram
 pub table-calls : (t : Table) (c : Call) (r : Called) (after : List ℕ) → CallPromise t c r after → (r .number ≡ 0 → ⊥)
     → Zeros (Table.told r) × (after ≡ outOf c) × (r .table ≡ t)
 table-calls = Compiled.call-refusing
+
+-- ---- views: a refused record holds nothing, and hands out nothing
+
+-- views::KnxnetIpFrame::parse
+pub knxnet-ip-parse : (s : List ℕ) (r : KnxnetIpFrame) → KnxnetIp.ParsePromise s r → Refusing (Frame.told (r .answer))
+knxnet-ip-parse s r p = frame-parse s (r .answer) (p .1)
+
+pub knxnet-ip-holds : (s : List ℕ) (r : KnxnetIpFrame) (e : Refusal) → KnxnetIp.ParsePromise s r → r .answer ≡ FA.Refused e → now (r .«data») ≡ []
+knxnet-ip-holds = KnxnetIpLaws.holds-none
+
+-- views::KnxnetIpFrame::body
+pub knxnet-ip-body : (f : KnxnetIpFrame) (e : Refusal) (r : List ℕ) → f .answer ≡ FA.Refused e → KnxnetIp.BodyPromise f r → r ≡ []
+knxnet-ip-body = KnxnetIpLaws.body-none
+
+-- views::body_in
+pub knxnet-ip-body-in : (s r : List ℕ) (e : Refusal) → verdict (Frame.checks (length s) (get Header.fields 0 s)) ≡ Refuse e → KnxnetIp.BodyInPromise s r → r ≡ []
+knxnet-ip-body-in s r e v q = q ∙ shown-refused (Frame.checks (length s) (get Header.fields 0 s)) (viewed 6 (Header.totalIn (get Header.fields 0 s))) e s v
+
+-- views::LDataFrame::parse
+pub ldata-frame-parse : (s : List ℕ) (r : LDataFrame) → LDataView.ParsePromise s r → Refusing (LData.told (r .answer))
+ldata-frame-parse s r p = ldata-parse s (r .answer) (p .1)
+
+pub ldata-frame-holds : (s : List ℕ) (r : LDataFrame) (e : Refusal) → LDataView.ParsePromise s r → r .answer ≡ LA.Refused e → now (r .«data») ≡ []
+ldata-frame-holds = LDataViewLaws.holds-none
+
+-- views::data_in
+pub ldata-frame-data-in : (s r : List ℕ) (e : Refusal) → LData.ParsePromise s (LA.Refused e) → LDataView.DataInPromise s r → r ≡ []
+ldata-frame-data-in s r e p q = q ∙ LDataViewLaws.refused-data s e p
+
+-- ---- the other public functions have no refusal: each answers on every input
+
+-- wire::word
+-- wire::high
+-- wire::low
+-- wire::byte_at
+-- wire::word_at
+-- wire::copy_at
+-- wire::part
+-- wire::Refusal::number
+-- constants::ServiceType::to_u16
+-- constants::CEMIMessageCode::to_u8
+-- constants::Priority::from_u8
+-- constants::Priority::to_u8
+-- address::GroupAddress::from_u16
+-- address::GroupAddress::to_u16
+-- address::IndividualAddress::from_u16
+-- address::IndividualAddress::to_u16
+-- control::ControlField1::from_u8
+-- control::ControlField1::to_u8
+-- control::ControlField1::raw
+-- control::ControlField1::is_standard_frame
+-- control::ControlField1::do_not_repeat
+-- control::ControlField1::is_broadcast
+-- control::ControlField1::priority
+-- control::ControlField1::ack_requested
+-- control::ControlField1::has_error
+-- control::ControlField1::new
+-- control::ControlField1::default
+-- control::ControlField2::from_u8
+-- control::ControlField2::to_u8
+-- control::ControlField2::raw
+-- control::ControlField2::is_group_address
+-- control::ControlField2::hop_count
+-- control::ControlField2::extended_format
+-- control::ControlField2::new
+-- control::ControlField2::default
+-- pci::Apci::from_bytes
+-- pci::Apci::to_u16
+-- pci::Apci::is_named
+-- pci::extract_6bit_value
+-- pci::Tpci::from_byte
+-- pci::Tpci::is_data
+-- pci::Tpci::sequence
+-- pci::Tpci::to_byte
+-- ldata::LDataFields::destination_group
+-- ldata::LDataFields::destination_individual
+-- ldata::LDataFields::is_group_write
+-- ldata::LDataFields::is_group_read
+-- ldata::LDataFields::is_group_response
+-- cemi::CEMIFrame::message_code
+-- cemi::CEMIFrame::is_ldata
+-- header::KnxnetIpHeader::body_length
+-- frame::FrameBuilder::new
+-- frame::FrameBuilder::size
+-- hpai::Hpai::new
+-- hpai::Hpai::to_bytes
+-- connect::ConnectionRequestInfo::tunnel_link_layer
+-- connect::ConnectRequest::new
+-- connect::ConnectResponse::is_ok
+-- connect::ConnectionStateRequest::new
+-- connect::ConnectionStateResponse::is_ok
+-- connect::DisconnectRequest::new
+-- connect::DisconnectResponse::is_ok
+-- tunnelling::ConnectionHeader::new
+-- tunnelling::TunnelingRequest::new
+-- tunnelling::TunnelingAck::new
+-- tunnelling::TunnelingAck::is_ok
+-- tunnel::Tunnel::fresh
+-- tunnel::Tunnel::waits
+-- tunnel::Tunnel::sending
+-- tunnel::Tunnel::arrival
+-- tunnel::Tunnel::delivered
+-- table::Table::empty
+-- kip::starts
+-- kip::next_record
+-- views::LDataFrame::data

@@ -56,6 +56,13 @@ use Rattle.tunnelling.specs.Request as TunnelRequest
 use Rattle.tunnelling.specs.RequestLaws as TunnelRequestLaws
 use Rattle.tunnelling.specs.Ack as Ack
 use Rattle.tunnelling.specs.AckLaws as AckLaws
+use denote.Ref.{now}
+use Rattle.views.specs.KnxnetIp as KnxnetIp
+use Rattle.views.specs.KnxnetIpLaws as KnxnetIpLaws
+use Rattle.views.specs.LData as LDataView
+use Rattle.views.specs.LDataLaws as LDataViewLaws
+use Rattle.views.specs.declared.knxnet_ip.KnxnetIpFrame.{KnxnetIpFrame}
+use Rattle.views.specs.declared.l_data.LDataFrame.{LDataFrame}
 use Rattle.datagram.specs.Heard as Heard
 use Rattle.datagram.specs.HeardLaws as HeardLaws
 use Rattle.tunnel.specs.Rules as Rules
@@ -648,3 +655,29 @@ kip-line = LineLaws.line-one
 -- kip::ending
 pub kip-ending : Lent₂ Line.EndingPromise
 kip-ending = LineLaws.ending-one
+
+-- ---- views: what is held, and what is handed out, is settled by its bytes
+
+-- views::KnxnetIpFrame::parse
+pub knxnet-ip-parse : (s : List ℕ) (r q : KnxnetIpFrame) → KnxnetIp.ParsePromise s r → KnxnetIp.ParsePromise s q → (now (r .«data») ≡ now (q .«data»)) × (r .answer ≡ q .answer)
+knxnet-ip-parse = KnxnetIpLaws.parse-one
+
+-- views::KnxnetIpFrame::body
+pub knxnet-ip-body : One KnxnetIp.BodyPromise
+knxnet-ip-body f r q = same
+
+-- views::body_in
+pub knxnet-ip-body-in : One KnxnetIp.BodyInPromise
+knxnet-ip-body-in s r q = same
+
+-- views::LDataFrame::parse
+pub ldata-frame-parse : (s : List ℕ) (r q : LDataFrame) → LDataView.ParsePromise s r → LDataView.ParsePromise s q → (now (r .«data») ≡ now (q .«data»)) × (r .answer ≡ q .answer)
+ldata-frame-parse = LDataViewLaws.parse-one
+
+-- views::LDataFrame::data
+pub ldata-frame-data : One LDataView.DataPromise
+ldata-frame-data f r q = same
+
+-- views::data_in
+pub ldata-frame-data-in : One LDataView.DataInPromise
+ldata-frame-data-in s r q = same

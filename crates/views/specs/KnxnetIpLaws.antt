@@ -1,18 +1,20 @@
 -- The body of what parsing a datagram holds is the datagram's body; no second answer. Assumes nothing.
 use Prim.Native.Nat.{ℕ}
 use mathlib.Core.Path.{_≡_, refl, sym, ap, _∙_}
-use mathlib.Core.List.{List}
+use mathlib.Core.List.{List, []}
 use lib.ListN.{length}
 use denote.Ref.{now}
 use Rattle.wire.specs.Told.{Told, done, viewed, Check, verdict, judged}
-use Rattle.wire.specs.ToldLaws.{let-refuse, let-through, was-refused}
+use Rattle.wire.specs.ToldLaws.{same, let-refuse, let-through, was-refused}
 use Rattle.wire.specs.Layout.{get}
 use Rattle.wire.specs.Parts.{shown}
+use Rattle.wire.specs.declared.refusals.Refusal.{Refusal}
 use Rattle.header.specs.Header.{fields, totalIn}
 use Rattle.frame.specs.Frame as Frame
+use Rattle.frame.specs.FrameLaws as FrameLaws
 use Rattle.frame.specs.declared.fields.FrameAnswer.{FrameAnswer}
 use Rattle.frame.specs.declared.fields.FrameAnswer.the-variants.{Frame, Refused}
-use Rattle.views.specs.Kept.{kept, kept-all, empty-part}
+use Rattle.views.specs.Kept.{kept, kept-all, kept-none, empty-part}
 use Rattle.views.specs.KnxnetIp.{ParsePromise, bodyOf, BodyPromise, BodyInPromise}
 use Rattle.views.specs.declared.knxnet_ip.KnxnetIpFrame.{KnxnetIpFrame}
 
@@ -32,3 +34,16 @@ module _ (s : List ℕ) where
 
 pub body-in : (s : List ℕ) (f : KnxnetIpFrame) (r : List ℕ) → ParsePromise s f → BodyPromise f r → BodyInPromise s r
 body-in s f r p q = q ∙ body-of s (f .answer) (now (f .«data»)) (p .0) (p .1)
+
+-- ---- refused
+
+pub holds-none : (s : List ℕ) (f : KnxnetIpFrame) (e : Refusal) → ParsePromise s f → f .answer ≡ Refused e → now (f .«data») ≡ []
+holds-none s f e p q = p .0 ∙ sym (kept-none (cs s) (told s) 4 e s refl (sym (ap Frame.told q) ∙ p .1))
+
+pub body-none : (f : KnxnetIpFrame) (e : Refusal) (r : List ℕ) → f .answer ≡ Refused e → BodyPromise f r → r ≡ []
+body-none f e r q p = p ∙ ap (λ (a : FrameAnswer). bodyOf a (now (f .«data»))) q
+
+-- ---- no second answer: a part is settled by its bytes
+
+pub parse-one : (s : List ℕ) (r q : KnxnetIpFrame) → ParsePromise s r → ParsePromise s q → (now (r .«data») ≡ now (q .«data»)) × (r .answer ≡ q .answer)
+parse-one s r q a b = (same (a .0) (b .0), FrameLaws.parse-one s (r .answer) (q .answer) (a .1) (b .1))

@@ -5,8 +5,9 @@ use mathlib.Core.Bool.{Bool}
 use mathlib.Core.List.{List, [], _++_}
 use lib.ListN.{length, getD}
 use lib.Dec.{ltb}
+use denote.Ref.{now}
 use Rattle.wire.specs.Told.{Told, done, viewed, judged}
-use Rattle.wire.specs.ToldLaws.{let-refuse, let-through, was-refused}
+use Rattle.wire.specs.ToldLaws.{same, let-refuse, let-through, was-refused}
 use Rattle.wire.specs.Layout.{get}
 use Rattle.wire.specs.Parts.{shown}
 use Rattle.wire.specs.declared.refusals.Refusal.{Refusal}
@@ -17,6 +18,7 @@ use Rattle.pci.specs.declared.transport.Tpci.the-variants.{UnnumberedData, Numb
 use Rattle.ldata.specs.Count.{startOf, crateCount}
 use Rattle.ldata.specs.LData.{fields, lengthIn, tpciIn, dataByte}
 use Rattle.ldata.specs.LData as LData
+use Rattle.ldata.specs.LDataLaws as FieldLaws
 use Rattle.ldata.specs.declared.fields.LDataFields.{LDataFields}
 use Rattle.ldata.specs.declared.fields.LDataAnswer.the-variants.{Frame, Refused}
 use Rattle.views.specs.Kept.{empty-part}
@@ -47,3 +49,13 @@ refused-data s e p =
 
 pub data-in : (s : List ℕ) (f : LDataFrame) (r : List ℕ) → ParsePromise s f → DataPromise f r → DataInPromise s r
 data-in s f r p q = q ∙ p .0
+
+-- ---- refused
+
+pub holds-none : (s : List ℕ) (f : LDataFrame) (e : Refusal) → ParsePromise s f → f .answer ≡ Refused e → now (f .«data») ≡ []
+holds-none s f e p q = p .0 ∙ refused-data s e (sym (ap LData.told q) ∙ p .1)
+
+-- ---- no second answer: a part is settled by its bytes
+
+pub parse-one : (s : List ℕ) (r q : LDataFrame) → ParsePromise s r → ParsePromise s q → (now (r .«data») ≡ now (q .«data»)) × (r .answer ≡ q .answer)
+parse-one s r q a b = (same (a .0) (b .0), FieldLaws.parse-one s (r .answer) (q .answer) (a .1) (b .1))
