@@ -33,12 +33,12 @@ pub fn body_in(datagram: &[u8]) -> &[u8]
     KnxnetIpFrame::parse(datagram).body()
 }
 
-fn held(data: &[u8]) -> &[u8]
-    ensures { λ r. ⌜ HeldPromise (now («data» .entry)) (now r) ⌝ }
+fn held(datagram: &[u8]) -> &[u8]
+    ensures { λ r. ⌜ HeldPromise (now (datagram .entry)) (now r) ⌝ }
 {
-    match FrameFields::parse(data) {
-        FrameAnswer::Frame(_) => data,
-        FrameAnswer::Refused(_) => wire::part(data, 0, 0),
+    match FrameFields::parse(datagram) {
+        FrameAnswer::Frame(_) => datagram,
+        FrameAnswer::Refused(_) => wire::part(datagram, 0, 0),
     }
 }
 

@@ -27,13 +27,13 @@ part-requires c κs = search needs
 
 returns : tie.Need-returns
 returns c =
-    let s = c .before .before .before .before .args .«data» .now in
+    let s = c .before .before .before .before .args .datagram .now in
     let g = c .enum-told .given in
     kept-all (Frame.checks (length s) (get fields 0 s)) (done (get fields 0 s)) (Frame.told (Frame (g .0 .0))) s refl (carried Frame.ParsePromise {a = s} refl (g .1) (c .before .before .parse .ensures))
 
 returns-2 : tie.Need-returns-2
 returns-2 c =
-    let s = c .before .before .before .before .before .args .«data» .now in
+    let s = c .before .before .before .before .before .args .datagram .now in
     let g = c .before .enum-told2 .given in
     c .part .ensures ∙ empty-part s ∙ kept-none (Frame.checks (length s) (get fields 0 s)) (done (get fields 0 s)) 4 (g .0 .0) s refl (carried Frame.ParsePromise {a = s} refl (g .1) (c .before .before .before .parse .ensures))
 

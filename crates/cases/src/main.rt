@@ -1,0 +1,69 @@
+// 01's cases on both sides that are run and not proved: one line for each, with its number and, where that is 0, the length that is answered.
+use constants::ServiceType;
+use frame::FrameBuilder;
+use header::HeaderAnswer;
+use header::KnxnetIpHeader;
+use libc::STDOUT_FILENO;
+use tunnelling::ConnectionHeader;
+use tunnelling::TunnelingRequest;
+use wire::Written;
+
+fn row(name: &[u8], number: u8, size: usize) {
+    io::write_all(STDOUT_FILENO, name);
+    io::write_all(STDOUT_FILENO, b": ");
+    io::print_decimal(STDOUT_FILENO, number as u64);
+    if number == 0 {
+        io::write_all(STDOUT_FILENO, b", ");
+        io::print_decimal(STDOUT_FILENO, size as u64);
+    }
+    io::write_all(STDOUT_FILENO, b"\n");
+}
+
+fn written(name: &[u8], answer: Written) {
+    match answer {
+        Written::Bytes(size) => row(name, 0, size),
+        Written::Refused(why) => row(name, why.number(), 0),
+    }
+}
+
+fn header(name: &[u8], body_length: usize) {
+    match KnxnetIpHeader::new(ServiceType::TunnellingRequest, body_length) {
+        HeaderAnswer::Header(made) => row(name, 0, made.total_length as usize),
+        HeaderAnswer::Refused(why) => row(name, why.number(), 0),
+    }
+}
+
+fn frame_builder(name: &[u8], body: &[u8], buf: &mut [u8], size: usize) {
+    if buf.len() < size {
+        return;
+    }
+    let builder = FrameBuilder::new(ServiceType::TunnellingRequest);
+    written(name, builder.build(body, &mut buf[0..size]));
+}
+
+fn tunneling_request(name: &[u8], cemi: &[u8], buf: &mut [u8], size: usize) {
+    if buf.len() < size {
+        return;
+    }
+    let connection = ConnectionHeader::new(21, 0);
+    let request = TunnelingRequest::new(connection);
+    written(name, request.build(cemi, &mut buf[0..size]));
+}
+
+fn builders(bytes: &[u8], buf: &mut [u8]) {
+    let body = wire::part(bytes, 0, 506);
+    frame_builder(b"FrameBuilder, body 506, buffer 512", body, buf, 512);
+    let longer = wire::part(bytes, 0, 507);
+    frame_builder(b"FrameBuilder, body 507, buffer 512", longer, buf, 512);
+    let cemi = wire::part(bytes, 0, 65526);
+    tunneling_request(b"cEMI 65526, buffer 65535", cemi, buf, 65535);
+    tunneling_request(b"cEMI 65526, buffer 65536", cemi, buf, 65536);
+}
+
+fn main() {
+    header(b"header, body 65529", 65529);
+    header(b"header, body 65530", 65530);
+    let bytes = [7u8; 65536];
+    let mut buf = [9u8; 65536];
+    builders(&bytes, &mut buf);
+}
