@@ -429,4 +429,5 @@ ldata-frame-data-in s r e p q = q ∙ LDataViewLaws.refused-data s e p
 -- table::Table::empty
 -- kip::starts
 -- kip::next_record
+-- kip::scan
 -- views::LDataFrame::data

@@ -1,15 +1,21 @@
 -- The inspection of a capture: stepping through it hands on its records, wherever its buffer is refilled, and 01's example, by computation.
-use Prim.Native.Nat.{ℕ}
+use Prim.Native.Nat.{ℕ, _≤_}
 use mathlib.Core.Path.{_≡_, refl}
 use mathlib.Core.Bool.{true, false}
 use mathlib.Core.List.{List, [], _∷_}
+use lib.ListN.{length, drop}
 use Rattle.kip.specs.Capture.{startsBy01, whole, recordsOf, leftOf, records, left, NextPromise}
 use Rattle.kip.specs.Digits.{digitsOf}
 use Rattle.kip.specs.Judge as Judge
 use Rattle.kip.specs.Line.{lineOf, endingOf}
 use Rattle.kip.specs.Stepping.{Move, Named, HandedOn, begun, ran}
 use Rattle.kip.specs.Stepping as Stepping
+use Rattle.kip.specs.Scan.{scanned, ScanPromise}
+use Rattle.kip.specs.Printed.{Printed}
+use Rattle.kip.specs.Printed as Printing
 use Rattle.kip.specs.declared.capture.Next.the-variants.{Record}
+use Rattle.kip.specs.declared.scanning.Spot.{Spot}
+use Rattle.kip.specs.declared.scanning.Scanned.{Scanned}
 
 -- whatever moves hand on records and read on: when all is read and no whole record is left, the records of the whole were handed on, in order, and what is left is the unfinished one
 pub hands-on : (s : List ℕ) (ms : List Move) → ran (begun s) ms .ahead ≡ [] → whole (ran (begun s) ms .unread) ≡ false → HandedOn s (ran (begun s) ms)
@@ -18,6 +24,14 @@ hands-on = Stepping.hands-on
 -- and the part that `next_record` names is the record that such a move hands on
 pub names : (s : List ℕ) (at start end : ℕ) → NextPromise s at (Record start end) → Named s at start end
 names = Stepping.names
+
+-- what a scan of a buffer prints are the lines of the records that it hands on, one behind the other in the output; the others start where it stopped
+pub scan-prints : (s out : List ℕ) (spot : Spot) (r : Scanned) (after : List ℕ) → spot .used ≤ length out → ScanPromise s out spot r after → Printed s (spot .at) (spot .used) (spot .n) out (scanned r after)
+scan-prints = Printing.prints
+
+-- and where it did not stop for want of room, no whole record is left
+pub scan-ends : (s out : List ℕ) (spot : Spot) (r : Scanned) (after : List ℕ) → ScanPromise s out spot r after → r .full ≡ false → whole (drop (r .spot .at) s) ≡ false
+scan-ends = Printing.ends
 
 -- ---- 01's example
 

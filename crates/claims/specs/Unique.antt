@@ -57,6 +57,10 @@ use Rattle.tunnelling.specs.RequestLaws as TunnelRequestLaws
 use Rattle.tunnelling.specs.Ack as Ack
 use Rattle.tunnelling.specs.AckLaws as AckLaws
 use denote.Ref.{now}
+use Rattle.kip.specs.Scan as Scan
+use Rattle.kip.specs.ScanLaws as ScanLaws
+use Rattle.kip.specs.declared.scanning.Spot.{Spot}
+use Rattle.kip.specs.declared.scanning.Scanned.{Scanned}
 use Rattle.views.specs.KnxnetIp as KnxnetIp
 use Rattle.views.specs.KnxnetIpLaws as KnxnetIpLaws
 use Rattle.views.specs.LData as LDataView
@@ -651,6 +655,10 @@ kip-judge = JudgeLaws.judge-one
 -- kip::line
 pub kip-line : Lent₂ Line.LinePromise
 kip-line = LineLaws.line-one
+
+-- kip::scan
+pub kip-scan : (s out : List ℕ) (spot : Spot) (r q : Scanned) (after later : List ℕ) → Scan.ScanPromise s out spot r after → Scan.ScanPromise s out spot q later → (r ≡ q) × (after ≡ later)
+kip-scan = ScanLaws.scan-one
 
 -- kip::ending
 pub kip-ending : Lent₂ Line.EndingPromise

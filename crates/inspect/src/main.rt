@@ -1,96 +1,42 @@
 // The inspection program: a capture on standard input, or those that its arguments name, and a line for each record on standard output.
-ghost use mathlib.Core.Path.{_≡_};
-ghost use Prim.Native.Nat.{_≤_};
-ghost use lib.ListN.{length};
-use kip::Next;
+use kip::Spot;
 use libc::STDIN_FILENO;
 use libc::STDOUT_FILENO;
 use wire::Written;
 
-// How far the capture is handed on and read in the input buffer, how much of the output buffer waits to be written, and how many records there were.
-struct Spot {
-    at: usize,
-    have: usize,
-    used: usize,
-    n: u64,
-}
-
-// Where a scan stopped: for want of input, or of room for a line.
-struct Scanned {
+// Where the scan is, and how far the capture is read in the input buffer.
+struct Reading {
     spot: Spot,
-    full: bool,
+    have: usize,
 }
 
 // Whether the input goes on.
 struct Turned {
-    spot: Spot,
+    reading: Reading,
     more: bool,
 }
 
-// Hands on every whole record while its line fits. A record takes two bytes at least, so that the count of turns ends no scan.
-fn scan(input: &[u8], out: &mut [u8], spot: Spot) -> Scanned
-    requires { ⌜ spot .used ≤ length (now out) ⌝ }
-    ensures { λ r. ⌜ r .spot .used ≤ length (now (out .entry)) ⌝ }
-{
-    let mut at = spot.at;
-    let mut used = spot.used;
-    let mut n = spot.n;
-    let mut full = false;
-    let mut turns = spot.have;
-    while turns > 0 {
-        match kip::next_record(wire::part(input, 0, spot.have), at) {
-            Next::Short => break,
-            Next::Record { start, end } => {
-                let next = std::num::wrapping_add_u64(n, 1);
-                let judged = kip::judge(wire::part(input, start, end));
-                match kip::line(next, judged, &mut out[used..]) {
-                    Written::Refused(_) => {
-                        full = true;
-                        break;
-                    }
-                    Written::Bytes(k) => {
-                        if out.len() - used < k {
-                            break;
-                        }
-                        used += k;
-                        at = end;
-                        n = next;
-                    }
-                }
-            }
-        }
-        turns -= 1;
-    }
-    Scanned {
-        spot: Spot {
-            at,
-            have: spot.have,
-            used,
-            n,
-        },
-        full,
-    }
-}
-
 // What is not handed on moves to the front once the buffer is read to its end.
-fn make_room(input: &mut [u8], spot: Spot) -> Spot {
-    if spot.at == spot.have {
-        return Spot {
-            at: 0,
-            have: 0,
-            used: spot.used,
-            n: spot.n,
-        };
-    }
-    if spot.have < input.len() {
-        return spot;
-    }
-    let left = move_down(input, spot.at, spot.have);
-    Spot {
+fn make_room(input: &mut [u8], reading: Reading) -> Reading {
+    let spot = reading.spot;
+    let first = Spot {
         at: 0,
-        have: left,
         used: spot.used,
         n: spot.n,
+    };
+    if spot.at == reading.have {
+        return Reading {
+            spot: first,
+            have: 0,
+        };
+    }
+    if reading.have < input.len() {
+        return reading;
+    }
+    let left = move_down(input, spot.at, reading.have);
+    Reading {
+        spot: first,
+        have: left,
     }
 }
 
@@ -122,63 +68,66 @@ fn read_more(fd: i32, input: &mut [u8], have: usize) -> usize {
 }
 
 // Scans, writes what is gathered where a line had no room, and else reads on; false where the input ends.
-fn turn(fd: i32, input: &mut [u8], out: &mut [u8], spot: Spot) -> Turned
-    requires { ⌜ spot .used ≤ length (now out) ⌝ }
-    ensures { λ r. ⌜ r .spot .used ≤ length (now (out .entry)) ⌝ }
-{
-    let scanned = scan(input, out, spot);
-    let after = scanned.spot;
+fn turn(fd: i32, input: &mut [u8], out: &mut [u8], reading: Reading) -> Turned {
+    let from = reading.spot;
+    let have = reading.have;
+    let scanned = kip::scan(wire::part(input, 0, have), out, from);
+    let spot = scanned.spot;
     if scanned.full {
-        io::write_all(STDOUT_FILENO, wire::part(out, 0, after.used));
+        io::write_all(STDOUT_FILENO, wire::part(out, 0, spot.used));
+        let emptied = Spot {
+            at: spot.at,
+            used: 0,
+            n: spot.n,
+        };
         return Turned {
-            spot: Spot {
-                at: after.at,
-                have: after.have,
-                used: 0,
-                n: after.n,
+            reading: Reading {
+                spot: emptied,
+                have,
             },
             more: true,
         };
     }
-    let ready = make_room(input, after);
+    let ready = make_room(input, Reading { spot, have });
     let got = read_more(fd, input, ready.have);
+    let next = ready.spot;
     Turned {
-        spot: Spot {
-            at: ready.at,
+        reading: Reading {
+            spot: next,
             have: std::num::wrapping_add_usize(ready.have, got),
-            used: after.used,
-            n: after.n,
         },
         more: got > 0,
     }
 }
 
 // Every turn reads or writes a byte at least, so no capture is long enough to meet this count.
-fn run(fd: i32, input: &mut [u8], out: &mut [u8]) -> Spot
-    ensures { λ r. ⌜ r .used ≤ length (now (out .entry)) ⌝ }
-{
-    let mut spot = Spot {
+fn run(fd: i32, input: &mut [u8], out: &mut [u8]) -> Reading {
+    let start = Spot {
         at: 0,
-        have: 0,
         used: 0,
         n: 0,
     };
+    let mut reading = Reading {
+        spot: start,
+        have: 0,
+    };
     let mut turns = u64::MAX;
     while turns > 0 {
-        let turned = turn(fd, input, out, spot);
-        spot = turned.spot;
+        let turned = turn(fd, input, out, reading);
+        reading = turned.reading;
         if !turned.more {
             break;
         }
         turns -= 1;
     }
-    spot
+    reading
 }
 
 fn records(fd: i32, input: &mut [u8], out: &mut [u8]) {
-    let spot = run(fd, input, out);
+    let reading = run(fd, input, out);
+    let spot = reading.spot;
     io::write_all(STDOUT_FILENO, wire::part(out, 0, spot.used));
-    match kip::ending(spot.n, spot.at < spot.have, out) {
+    match kip::ending(spot.n, spot.at < reading.have, out) {
         Written::Bytes(k) => {
             io::write_all(STDOUT_FILENO, wire::part(out, 0, k));
         }

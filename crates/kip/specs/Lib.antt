@@ -8,3 +8,6 @@ pub mod Line
 pub mod LineLaws
 pub mod CaptureLaws
 pub mod Stepping
+pub mod Scan
+pub mod ScanLaws
+pub mod Printed

@@ -3,11 +3,13 @@ use Prim.Native.Nat.{ℕ}
 use mathlib.Core.Path.{_≡_}
 use mathlib.Core.Bool.{Bool, cond}
 use mathlib.Core.List.{List, [], _∷_, _++_}
-use lib.ListN.{length}
+use lib.ListN.{length, getD}
 use lib.Dec.{eqb}
+use Rattle.wire.specs.Told.{Told}
 use Rattle.wire.specs.Written.{WritePromise}
 use Rattle.wire.specs.declared.refusals.Written.{Written}
 use Rattle.kip.specs.Digits.{decimal, hex4}
+use Rattle.kip.specs.Judge.{told}
 use Rattle.kip.specs.declared.judging.Judged.{Judged}
 
 -- a text, a number and a line feed
@@ -29,8 +31,12 @@ serviceText code = 32 ∷ hex4 code ++ 32 ∷ []
 abbrev pub refusedText : List ℕ
 refusedText = 32 ∷ 114 ∷ 101 ∷ 102 ∷ 117 ∷ 115 ∷ 101 ∷ 100 ∷ 32 ∷ []
 
+-- the line of what is told of a record: service and total length, or the refusal
+abbrev pub lineTold : ℕ → Told → List ℕ
+lineTold n t = cond (eqb (t .number) 0) (numbered n (serviceText (getD (t .values) 0 0)) (getD (t .values) 1 0)) (numbered n refusedText (t .number))
+
 abbrev pub lineOf : ℕ → Judged → List ℕ
-lineOf n j = cond (eqb (j .number) 0) (numbered n (serviceText (j .service)) (j .total)) (numbered n refusedText (j .number))
+lineOf n j = lineTold n (told j)
 
 -- written at the start of the output, or not at all where it does not fit (1)
 abbrev pub LinePromise : ℕ → Judged → List ℕ → Written → List ℕ → Type 0

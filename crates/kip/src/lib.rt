@@ -3,6 +3,7 @@ mod capture;
 mod digits;
 mod judging;
 mod lines;
+mod scanning;
 
 pub use capture::Next;
 pub use capture::START_SIZE;
@@ -12,3 +13,6 @@ pub use judging::Judged;
 pub use judging::judge;
 pub use lines::ending;
 pub use lines::line;
+pub use scanning::Scanned;
+pub use scanning::Spot;
+pub use scanning::scan;

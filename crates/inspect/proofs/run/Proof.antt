@@ -1,5 +1,4 @@
--- What waits is no longer than its buffer; the turns run out. Assumes nothing.
-use Prim.Native.Nat.{_≤_}
+-- The buffers keep their lengths; the turns run out. Assumes nothing.
 use mathlib.Core.Path.{_≡_}
 use lib.ListN.{length}
 use borrow.Author.Needs.{needs}
@@ -7,10 +6,10 @@ use Rattle.inspect.proofs.run.Statement.{statement}
 use Rattle.inspect.proofs.run.Tie as tie
 
 abbrev Inv-loop : tie.InvT-loop
-Inv-loop fd input₀ out₀ spot₀ turns₀ input out spot turns = (spot .used ≤ length out) × ((length input ≡ length input₀) × (length out ≡ length out₀))
+Inv-loop fd input₀ out₀ reading₀ turns₀ input out reading turns = (length input ≡ length input₀) × (length out ≡ length out₀)
 
 abbrev μ-loop : tie.MeasureT-loop
-μ-loop fd input₀ out₀ spot₀ turns₀ input out spot turns = turns
+μ-loop fd input₀ out₀ reading₀ turns₀ input out reading turns = turns
 
 loop-holds : tie.Need-loop-holds Inv-loop μ-loop
 loop-holds c = search needs

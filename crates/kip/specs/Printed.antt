@@ -1,0 +1,124 @@
+-- What a scan prints are the lines of the records that it hands on, numbered one after the other; what it leaves is where the rest of the records starts. Assumes nothing.
+use Prim.Native.Nat.{ℕ, zero, suc, _+_, _-_, _≤_}
+use native.Mathlib.Omega.{arith}
+use native.Mathlib.Nat.{add-zero}
+use mathlib.Core.Path.{_≡_, refl, sym, ap, _∙_}
+use mathlib.Core.Bool.{Bool, true, false, cond}
+use mathlib.Core.List.{List, [], _∷_, _++_, append-nil}
+use lib.ListN.{length, take, drop, length-drop, length-append, take-append-drop}
+use lib.Seq.{drop-drop, length-take-le}
+use lib.Dec.{leb}
+use borrow.Author.Tests.{leb-true}
+use Rattle.wire.specs.Layout.{wordAt, copied}
+use Rattle.wire.specs.LayoutLaws.{copied-is, copied-on}
+use Rattle.kip.specs.Capture.{whole, firstIn, restIn, records, left}
+use Rattle.kip.specs.CaptureLaws.{word-drop}
+use Rattle.kip.specs.Judge.{judgeBy01}
+use Rattle.kip.specs.Line.{lineTold}
+use Rattle.kip.specs.Stepping.{is-whole, first-off}
+use Rattle.kip.specs.Scan.{Scan, follows, lineAt, scanOf, scanned, ScanPromise}
+use Rattle.kip.specs.declared.scanning.Spot.{Spot}
+use Rattle.kip.specs.declared.scanning.Scanned.{Scanned}
+
+-- the lines of records, behind a record with the number n
+abbrev pub linesOf : ℕ → List (List ℕ) → List ℕ
+linesOf n [] = []
+linesOf n (r ∷ rs) = lineTold (follows n) (judgeBy01 r) ++ linesOf (follows n) rs
+
+pub record Printed (s : List ℕ) (at used n : ℕ) (out : List ℕ) (r : Scan) : Type 0 where
+  pub handed : List (List ℕ)
+  pub prints : r .out ≡ copied (linesOf n handed) out used
+  pub uses : r .used ≡ used + length (linesOf n handed)
+  pub fits : used + length (linesOf n handed) ≤ length out
+  pub in-order : records (drop at s) ≡ handed ++ records (drop (r .at) s)
+  pub leaves : left (drop at s) ≡ left (drop (r .at) s)
+
+copied-length : (w out : List ℕ) (at : ℕ) → at + length w ≤ length out → length (copied w out at) ≡ length out
+copied-length w out at h =
+    ap length (copied-is w out at (at + length w) refl h) ∙ length-append (take at out ++ w) (drop (at + length w) out)
+    ∙ omega (arith, length-append (take at out) w, length-take-le at out (omega arith), length-drop (at + length w) out)
+
+nothing : (s : List ℕ) (at used n : ℕ) (out : List ℕ) (full : Bool) → used ≤ length out → Printed s at used n out (record { at = at; used = used; n = n; out = out; full = full })
+nothing s at used n out full h = record {
+  handed = [];
+  prints = sym (copied-is [] out used used (add-zero used) h ∙ ap (λ (l : List ℕ). l ++ drop used out) (append-nil (take used out)) ∙ take-append-drop used out);
+  uses = omega arith;
+  fits = omega arith;
+  in-order = refl;
+  leaves = refl;
+}
+
+-- behind a whole record the rest starts
+rest-at : (s : List ℕ) (at : ℕ) → restIn (drop at s) ≡ drop (at + 2 + wordAt s at) s
+rest-at s at =
+    let q : at + (2 + wordAt (drop at s) 0) ≡ at + 2 + wordAt s at = omega (arith, word-drop s at) in
+    drop-drop (2 + wordAt (drop at s) 0) at s ∙ ap (λ (k : ℕ). drop k s) q
+
+one-more : (s : List ℕ) (at used n : ℕ) (out : List ℕ) (r : Scan) → whole (drop at s) ≡ true → used + length (lineAt s at n) ≤ length out
+    → Printed s (at + 2 + wordAt s at) (used + length (lineAt s at n)) (follows n) (copied (lineAt s at n) out used) r → Printed s at used n out r
+one-more s at used n out r e h p =
+    let w : List ℕ = lineAt s at n in
+    let first : List ℕ = firstIn (drop at s) in
+    let more : List ℕ = linesOf (follows n) (p .handed) in
+    let off = first-off (drop at s) e in
+    let same = copied-length w out used h in
+    let size = length-append w more in
+    record {
+      handed = first ∷ p .handed;
+      prints = p .prints ∙ copied-on w more out used (used + length w) refl (omega (arith, p .fits, same));
+      uses = p .uses ∙ omega (arith, size);
+      fits = omega (arith, p .fits, same, size);
+      in-order = off .records-off ∙ ap (λ (l : List ℕ). first ∷ records l) (rest-at s at) ∙ ap (λ (rs : List (List ℕ)). first ∷ rs) (p .in-order);
+      leaves = off .left-off ∙ ap left (rest-at s at) ∙ p .leaves;
+    }
+
+pub scan-prints : (k : ℕ) (s : List ℕ) (at used n : ℕ) (out : List ℕ) → used ≤ length out → Printed s at used n out (scanOf k s at used n out)
+unfolding scanOf
+scan-prints zero s at used n out h = nothing s at used n out false h
+scan-prints (suc k) s at used n out h =
+    go (whole (drop at s)) (leb (used + length (lineAt s at n)) (length out)) refl refl
+    (scan-prints k s (at + 2 + wordAt s at) (used + length (lineAt s at n)) (follows n) (copied (lineAt s at n) out used))
+  where
+    on : Scan
+    on = scanOf k s (at + 2 + wordAt s at) (used + length (lineAt s at n)) (follows n) (copied (lineAt s at n) out used)
+
+    go : (b c : Bool) → whole (drop at s) ≡ b → leb (used + length (lineAt s at n)) (length out) ≡ c
+        → (used + length (lineAt s at n) ≤ length (copied (lineAt s at n) out used) → Printed s (at + 2 + wordAt s at) (used + length (lineAt s at n)) (follows n) (copied (lineAt s at n) out used) on)
+        → Printed s at used n out (cond b (cond c on (record { at = at; used = used; n = n; out = out; full = true })) (record { at = at; used = used; n = n; out = out; full = false }))
+    go false c e f ih = nothing s at used n out false h
+    go true false e f ih = nothing s at used n out true h
+    go true true e f ih =
+        let fits = leb-true (used + length (lineAt s at n)) (length out) f in
+        one-more s at used n out on e fits (ih (omega (arith, copied-length (lineAt s at n) out used fits)))
+
+-- a scan that is not full leaves no whole record, where it had as many turns as there are bytes
+pub scan-ends : (k : ℕ) (s : List ℕ) (at used n : ℕ) (out : List ℕ) → length s - at ≤ k → scanOf k s at used n out .full ≡ false → whole (drop (scanOf k s at used n out .at) s) ≡ false
+unfolding scanOf
+scan-ends zero s at used n out h q = go (whole (drop at s)) refl
+  where
+    go : (b : Bool) → whole (drop at s) ≡ b → whole (drop at s) ≡ false
+    go true e = let two = is-whole (drop at s) e .two in absurd (omega (arith, length-drop at s))
+    go false e = e
+scan-ends (suc k) s at used n out h q =
+    go (whole (drop at s)) (leb (used + length (lineAt s at n)) (length out)) refl q
+    (scan-ends k s (at + 2 + wordAt s at) (used + length (lineAt s at n)) (follows n) (copied (lineAt s at n) out used))
+  where
+    on : Scan
+    on = scanOf k s (at + 2 + wordAt s at) (used + length (lineAt s at n)) (follows n) (copied (lineAt s at n) out used)
+
+    go : (b c : Bool) → whole (drop at s) ≡ b
+        → cond b (cond c on (record { at = at; used = used; n = n; out = out; full = true })) (record { at = at; used = used; n = n; out = out; full = false }) .full ≡ false
+        → (length s - (at + 2 + wordAt s at) ≤ k → on .full ≡ false → whole (drop (on .at) s) ≡ false)
+        → whole (drop (cond b (cond c on (record { at = at; used = used; n = n; out = out; full = true })) (record { at = at; used = used; n = n; out = out; full = false }) .at) s) ≡ false
+    go false c e p ih = e
+    go true false e p ih = absurd (let z : _≡_ {A = ℕ} 0 1 = cc in omega arith)
+    go true true e p ih = let two = is-whole (drop at s) e .two in ih (omega (arith, length-drop at s)) p
+
+-- ---- of the code's scan
+
+pub prints : (s out : List ℕ) (spot : Spot) (r : Scanned) (after : List ℕ) → spot .used ≤ length out → ScanPromise s out spot r after → Printed s (spot .at) (spot .used) (spot .n) out (scanned r after)
+prints s out spot r after h p = rw p (scan-prints (length s) s (spot .at) (spot .used) (spot .n) out h)
+
+pub ends : (s out : List ℕ) (spot : Spot) (r : Scanned) (after : List ℕ) → ScanPromise s out spot r after → r .full ≡ false → whole (drop (r .spot .at) s) ≡ false
+ends s out spot r after p q =
+    ap (λ (x : Scan). whole (drop (x .at) s)) p ∙ scan-ends (length s) s (spot .at) (spot .used) (spot .n) out (omega arith) (sym (ap (λ (x : Scan). x .full) p) ∙ q)

@@ -1,0 +1,176 @@
+-- A scan, one turn at a time, as the code makes it; no second answer. Assumes nothing.
+use Prim.Native.Nat.{ℕ, zero, suc, _+_, _-_, _≤_, _<_}
+use native.Mathlib.Omega.{arith}
+use mathlib.Core.Path.{_≡_, refl, sym, ap, _∙_}
+use mathlib.Core.Bool.{Bool, true, false, cond}
+use mathlib.Core.List.{List, [], _∷_, _++_, append-assoc, append-nil}
+use lib.ListN.{length, getD, take, drop, length-drop, take-append-drop, drop-of-length-le}
+use lib.Seq.{drop-drop}
+use lib.Dec.{ltb}
+use borrow.Author.Tests.{le-leb, lt-leb, lt-ltb, ltb-true, ltb-false}
+use Rattle.wire.specs.Told.{Told, done, refused, Check, _⇒_, verdict, judged, lent}
+use Rattle.wire.specs.ToldLaws.{same, same-test, holds, let-through, was-accepted, was-refused}
+use Rattle.wire.specs.Parts.{partOf}
+use Rattle.wire.specs.Layout.{wordAt, copied}
+use Rattle.wire.specs.LayoutLaws.{copied-is}
+use Rattle.wire.specs.Written.{onto, WritePromise}
+use Rattle.wire.specs.Written as Written
+use Rattle.wire.specs.declared.refusals.Refusal.{Refusal}
+use Rattle.wire.specs.declared.refusals.Refusal.the-variants.{BufferTooSmall}
+use Rattle.wire.specs.declared.refusals.Verdict.the-variants.{Accept, Refuse}
+use Rattle.wire.specs.declared.refusals.Written.{Written}
+use Rattle.wire.specs.declared.refusals.Written.the-variants.{Bytes, Refused}
+use Rattle.kip.specs.Capture.{whole, firstIn, NextPromise}
+use Rattle.kip.specs.Judge.{judgeBy01, JudgePromise}
+use Rattle.kip.specs.Line.{lineTold, lineOf}
+use Rattle.kip.specs.Stepping.{Named, names}
+use Rattle.kip.specs.Scan.{Scan, follows, lineAt, scanOf, PutLinePromise, ScanPromise}
+use Rattle.kip.specs.declared.capture.Next.the-variants.{Record, Short}
+use Rattle.kip.specs.declared.judging.Judged.{Judged}
+use Rattle.kip.specs.declared.scanning.Spot.{Spot}
+use Rattle.kip.specs.declared.scanning.Scanned.{Scanned}
+
+-- ---- one turn
+
+abbrev pub stopped : ℕ → ℕ → ℕ → List ℕ → Bool → Scan
+stopped at used n out full = record { at = at; used = used; n = n; out = out; full = full }
+
+pub no-turn : (s : List ℕ) (at used n : ℕ) (out : List ℕ) → scanOf 0 s at used n out ≡ stopped at used n out false
+unfolding scanOf
+no-turn s at used n out = refl
+
+pub short : (k : ℕ) (s : List ℕ) (at used n : ℕ) (out : List ℕ) → whole (drop at s) ≡ false → scanOf k s at used n out ≡ stopped at used n out false
+unfolding scanOf
+short zero s at used n out e = refl
+short (suc k) s at used n out e = rw e
+
+pub no-room : (k : ℕ) (s : List ℕ) (at used n : ℕ) (out : List ℕ) → 1 ≤ k → whole (drop at s) ≡ true → length out < used + length (lineAt s at n)
+    → scanOf k s at used n out ≡ stopped at used n out true
+unfolding scanOf
+no-room zero s at used n out h e f = absurd (omega arith)
+no-room (suc k) s at used n out h e f = rw (e, lt-leb (used + length (lineAt s at n)) (length out) f)
+
+pub hands : (k : ℕ) (s : List ℕ) (at used n : ℕ) (out : List ℕ) → 1 ≤ k → whole (drop at s) ≡ true → used + length (lineAt s at n) ≤ length out
+    → scanOf k s at used n out ≡ scanOf (k - 1) s (at + 2 + wordAt s at) (used + length (lineAt s at n)) (follows n) (copied (lineAt s at n) out used)
+unfolding scanOf
+hands zero s at used n out h e f = absurd (omega arith)
+hands (suc k) s at used n out h e f =
+    let q : suc k - 1 ≡ k = omega arith in
+    rw (q, e, le-leb (used + length (lineAt s at n)) (length out) f)
+
+-- ---- a line behind what stands
+
+pub put-behind : (w out after : List ℕ) (at : ℕ) (r : Written) → at ≤ length out → WritePromise w (drop at out) r after
+    → (Written.told r ≡ judged (ltb (length out) (at + length w) ⇒ BufferTooSmall ∷ []) (done (length w ∷ []))) × (take at out ++ after ≡ copied w out at)
+put-behind w out after at r h p = (p .0 ∙ ap (λ (b : Bool). judged (b ⇒ BufferTooSmall ∷ []) (done (length w ∷ []))) same, go (ltb (length out) (at + length w)) refl)
+  where
+    rest : List ℕ
+    rest = drop at out
+
+    same : ltb (length (drop at out)) (length w) ≡ ltb (length out) (at + length w)
+    same = same-test (length (drop at out)) (length w) (length out) (at + length w) (λ x. omega (arith, length-drop at out)) (λ x. omega (arith, length-drop at out))
+
+    left : (b : Bool) → ltb (length out) (at + length w) ≡ b → after ≡ lent (verdict (b ⇒ BufferTooSmall ∷ [])) (drop at out) (onto (drop at out) w)
+    left b e = p .1 ∙ ap (λ (c : Bool). lent (verdict (c ⇒ BufferTooSmall ∷ [])) (drop at out) (onto (drop at out) w)) (same ∙ e)
+
+    go : (b : Bool) → ltb (length out) (at + length w) ≡ b → take at out ++ after ≡ copied w out at
+    go true e =
+        ap (λ (l : List ℕ). take at out ++ l) (left true e) ∙ take-append-drop at out
+        ∙ sym (ap (λ (c : Bool). cond c (take at out ++ w ++ drop (at + length w) out) out) (lt-leb (at + length w) (length out) (ltb-true (length out) (at + length w) e)))
+    go false e =
+        ap (λ (l : List ℕ). take at out ++ l) (left false e ∙ ap (λ (l : List ℕ). w ++ l) (drop-drop (length w) at out))
+        ∙ sym (append-assoc (take at out) w (drop (at + length w) out))
+        ∙ sym (copied-is w out at (at + length w) refl (ltb-false (length out) (at + length w) e))
+
+-- nothing lies behind a part that runs to the end
+pub to-the-end : (out after : List ℕ) (at : ℕ) → at ≤ length out → take at out ++ (after ++ drop (length out - at) (drop at out)) ≡ take at out ++ after
+to-the-end out after at h =
+    ap (λ (l : List ℕ). take at out ++ (after ++ l)) (drop-of-length-le (drop at out) {i = length out - at} (omega (arith, length-drop at out)))
+    ∙ ap (λ (l : List ℕ). take at out ++ l) (append-nil after)
+
+pub no-place : (w out : List ℕ) (at : ℕ) → length out < at
+    → (refused 1 BufferTooSmall ≡ judged (ltb (length out) (at + length w) ⇒ BufferTooSmall ∷ []) (done (length w ∷ []))) × (out ≡ copied w out at)
+no-place w out at h =
+    (simp (lt-ltb (length out) (at + length w) (omega arith)), simp (lt-leb (at + length w) (length out) (omega arith)))
+
+-- ---- one turn of the code
+
+-- a line that was written is as long as is said, and fits; where it was refused it does not, and nothing changed
+pub record Put (w out : List ℕ) (at k : ℕ) : Type 0 where
+  pub size : k ≡ length w
+  pub fits : at + length w ≤ length out
+
+was-put : (w out after : List ℕ) (at k : ℕ) → Written.told (Bytes k) ≡ judged (ltb (length out) (at + length w) ⇒ BufferTooSmall ∷ []) (done (length w ∷ [])) → Put w out at k
+was-put w out after at k p =
+    let cs = ltb (length out) (at + length w) ⇒ BufferTooSmall ∷ [] in
+    let t = done (length w ∷ []) in
+    record {
+      size = ap (λ (u : Told). getD (u .values) 0 0) (let-through cs t (Written.told (Bytes k)) refl p);
+      fits = ltb-false (length out) (at + length w) (holds [] (ltb (length out) (at + length w)) BufferTooSmall [] (was-accepted cs t (Written.told (Bytes k)) refl p));
+    }
+
+was-full : (w out : List ℕ) (at : ℕ) (e : Refusal) → Written.told (Refused e) ≡ judged (ltb (length out) (at + length w) ⇒ BufferTooSmall ∷ []) (done (length w ∷ [])) → length out < at + length w
+was-full w out at e p = go (ltb (length out) (at + length w)) refl
+  where
+    cs : List Check
+    cs = ltb (length out) (at + length w) ⇒ BufferTooSmall ∷ []
+
+    go : (b : Bool) → ltb (length out) (at + length w) ≡ b → length out < at + length w
+    go true f = ltb-true (length out) (at + length w) f
+    go false f =
+        let q : Refuse e ≡ Accept = sym (was-refused cs (done (length w ∷ [])) 1 e refl p) ∙ ap (λ (b : Bool). verdict (b ⇒ BufferTooSmall ∷ [])) f in
+        absurd (let z : _≡_ {A = ℕ} 0 1 = cc in omega arith)
+
+module _ (k : ℕ) (s : List ℕ) (at used n : ℕ) (out : List ℕ) where
+  pub turn-short : NextPromise s at Short → scanOf k s at used n out ≡ stopped at used n out false
+  turn-short p = short k s at used n out (go (whole (drop at s)) refl p)
+    where
+      go : (b : Bool) → whole (drop at s) ≡ b → Short ≡ cond b (Record (at + 2) (at + 2 + wordAt s at)) Short → whole (drop at s) ≡ false
+      go true e q = absurd (let z : _≡_ {A = ℕ} 0 1 = cc in omega arith)
+      go false e q = e
+
+  module _ (start end next : ℕ) (j : Judged) (some : 1 ≤ k) (named : NextPromise s at (Record start end)) (told-so : JudgePromise (partOf s start end) j) (counted : next ≡ follows n) where
+    there : Named s at start end
+    there = names s at start end named
+
+    ends : end ≡ at + 2 + wordAt s at
+    ends = go (whole (drop at s)) (there .is-there) named
+      where
+        go : (b : Bool) → b ≡ true → Record start end ≡ cond b (Record (at + 2) (at + 2 + wordAt s at)) Short → end ≡ at + 2 + wordAt s at
+        go true e q = cc
+        go false e q = absurd (let z : _≡_ {A = ℕ} 0 1 = cc in omega arith)
+
+    -- the line that is put is the record's
+    the-line : lineOf next j ≡ lineAt s at n
+    the-line =
+        ap (lineTold next) (told-so ∙ ap judgeBy01 (there .datagram))
+        ∙ ap (λ (m : ℕ). lineTold m (judgeBy01 (firstIn (drop at s)))) counted
+
+    pub turn-full : (e : Refusal) (after : List ℕ) → PutLinePromise next j used out (Refused e) after → scanOf k s at used n out ≡ stopped at used n after true
+    turn-full e after p =
+        let w : List ℕ = lineOf next j in
+        let none = was-full w out used e (p .0) in
+        let kept : after ≡ out = p .1 ∙ simp (lt-leb (used + length w) (length out) none) in
+        no-room k s at used n out some (there .is-there) (omega (arith, ap length the-line))
+        ∙ ap (λ (l : List ℕ). stopped at used n l true) (sym kept)
+
+    pub turn-hands : (size : ℕ) (after : List ℕ) → PutLinePromise next j used out (Bytes size) after → scanOf k s at used n out ≡ scanOf (k - 1) s end (used + size) next after
+    turn-hands size after p =
+        let w : List ℕ = lineOf next j in
+        let put = was-put w out after used size (p .0) in
+        let long : length (lineAt s at n) ≡ size = ap length (sym the-line) ∙ sym (put .size) in
+        hands k s at used n out some (there .is-there) (omega (arith, put .fits, put .size))
+        ∙ ap (λ (e : ℕ). scanOf (k - 1) s e (used + length (lineAt s at n)) (follows n) (copied (lineAt s at n) out used)) (sym ends)
+        ∙ ap (λ (m : ℕ). scanOf (k - 1) s end (used + m) (follows n) (copied (lineAt s at n) out used)) long
+        ∙ ap (λ (m : ℕ). scanOf (k - 1) s end (used + size) m (copied (lineAt s at n) out used)) (sym counted)
+        ∙ ap (scanOf (k - 1) s end (used + size) next) (ap (λ (l : List ℕ). copied l out used) (sym the-line) ∙ sym (p .1))
+
+    pub turn-fits : (size : ℕ) (after : List ℕ) → PutLinePromise next j used out (Bytes size) after → used + size ≤ length out
+    turn-fits size after p = let put = was-put (lineOf next j) out after used size (p .0) in omega (arith, put .fits, put .size)
+
+-- ---- no second answer
+
+pub scan-one : (s out : List ℕ) (spot : Spot) (r q : Scanned) (after later : List ℕ) → ScanPromise s out spot r after → ScanPromise s out spot q later → (r ≡ q) × (after ≡ later)
+scan-one s out spot r q after later a b =
+    let e = same a b in
+    (ap (λ (x : Scan). record { spot = record { at = x .at; used = x .used; n = x .n }; full = x .full }) e, ap (λ (x : Scan). x .out) e)
