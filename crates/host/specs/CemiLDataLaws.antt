@@ -44,10 +44,12 @@ use Rattle.host.specs.declared.cemi_ldata.KnxLData.{KnxLData}
 -- ---- on from the two answers below
 
 -- the record that the parse made is the one of the bytes
+code-is : (s : List ℕ) (f : CEMIFrame) → Cemi.ParsePromise s (C.Frame f) → codeOf (f .«message_code») ≡ codeIn s
+code-is s f p = ap (λ (t : Told). getD (t .values) 0 0) (let-through (Cemi.checks s) (done (codeIn s ∷ [])) (Cemi.told (C.Frame f)) refl p)
+
 frame-is : (s : List ℕ) (f : CEMIFrame) → Cemi.ParsePromise s (C.Frame f) → f ≡ frameIn s
 frame-is s f p =
-    let code : codeOf (f .«message_code») ≡ codeIn s = ap (λ (t : Told). getD (t .values) 0 0) (let-through (Cemi.checks s) (done (codeIn s ∷ [])) (Cemi.told (C.Frame f)) refl p) in
-    ap (λ (m : CEMIMessageCode). record { «message_code» = m }) (sym (MessageCodeLaws.back (f .«message_code»)) ∙ ap messageOf code)
+    ap (λ (m : CEMIMessageCode). record { «message_code» = m }) (sym (MessageCodeLaws.back (f .«message_code»)) ∙ ap messageOf (code-is s f p))
 
 -- where all checks hold, so do the last
 last-hold : (cs ds : List Check) → verdict (cs ++ ds) ≡ Accept → verdict ds ≡ Accept
@@ -168,6 +170,29 @@ reads s f p base rest b r first second x y code named e n v view =
     let read : code ≡ codeOfBytes (dataIn rest) (getD rest 7 0) (getD rest 8 0) =
     e ∙ ap (λ (k : ℕ). codeOfBytes (ltb (k / 64) 2) k second) x ∙ ap (codeOfBytes (dataIn rest) (getD rest 7 0)) y in
     rw (named-is rest f parsed code named read n, read ∙ code-in (dataIn rest) (getD rest 7 0) (getD rest 8 0), x, y, b, at .0, at .1, r)
+
+-- the numbers that are told are those of the records that `parse`, `as_ldata` and `data` answer
+pub ldata-as : (s : List ℕ) (r : KnxLData) (f : CEMIFrame) (g : LDataFields) (v : View)
+    → CemiLDataPromise s r → Cemi.ParsePromise s (C.Frame f) → Cemi.AsLDataPromise f s (L.Frame g) → DataPromise g (serviceInfo s) v
+    → told r ≡ record {
+      number = 0;
+      values = codeOf (f .«message_code») ∷ values g ++ sixBitIn (isData (g .tpci)) (getD (serviceInfo s) 8 0) ∷ [];
+      start = 2 + infoLength s + v .start;
+      end = 2 + infoLength s + v .end;
+    }
+ldata-as s r f g v p parsed read view =
+    let rest : List ℕ = serviceInfo s in
+    let on-rest : LData.ParsePromise rest (L.Frame g) = accepted s f parsed g read in
+    let at = view-is rest g on-rest v view in
+    let of : ℕ → List ℕ → Bool → ℕ → ℕ → Told = λ code vs d a e.
+    record { number = 0; values = code ∷ vs ++ sixBitIn d (getD rest 8 0) ∷ []; start = 2 + infoLength s + a; end = 2 + infoLength s + e } in
+    p ∙ let-pass (checks s) (ldataIn s) (was-accepted (checks s) (done (held rest)) (LData.told (L.Frame g)) refl (judged-as s f parsed (L.Frame g) read))
+    ∙ sym
+    (ap (λ (code : ℕ). of code (values g) (isData (g .tpci)) (v .start) (v .end)) (code-is s f parsed)
+    ∙ ap (λ (vs : List ℕ). of (codeIn s) vs (isData (g .tpci)) (v .start) (v .end)) (nine rest g on-rest)
+    ∙ ap (λ (d : Bool). of (codeIn s) (held rest) d (v .start) (v .end)) (data-is rest g on-rest)
+    ∙ ap (λ (a : ℕ). of (codeIn s) (held rest) (dataIn rest) a (v .end)) (at .0)
+    ∙ ap (of (codeIn s) (held rest) (dataIn rest) (startOf (dataIn rest))) (at .1))
 
 -- ---- no second answer
 
