@@ -10,7 +10,6 @@ use Rattle.header.specs.Header.{fields, values, serviceIn, totalIn}
 use Rattle.frame.specs.Frame as Frame
 use Rattle.frame.specs.declared.fields.FrameAnswer.the-variants.{Frame}
 use borrow.Author.Needs.{needs}
-use borrow.Author.Needs.{needs}
 use Rattle.kip.proofs.judging.judge.Statement.{statement}
 use Rattle.kip.proofs.judging.judge.Tie as tie
 

@@ -3,7 +3,6 @@ use native.Mathlib.Omega.{arith}
 use mathlib.Core.Path.{refl}
 use Rattle.kip.specs.LineLaws.{closed}
 use borrow.Author.Needs.{needs}
-use borrow.Author.Needs.{needs}
 use Rattle.kip.proofs.lines.close.Statement.{statement}
 use Rattle.kip.proofs.lines.close.Tie as tie
 

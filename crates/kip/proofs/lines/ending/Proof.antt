@@ -9,7 +9,6 @@ use Rattle.kip.specs.DigitLaws.{places-most}
 use Rattle.kip.specs.Line.{cutText, cutFront, recordsText}
 use Rattle.kip.specs.LineLaws.{no-room, laid, cut-part, cut-most}
 use borrow.Author.Needs.{needs}
-use borrow.Author.Needs.{needs}
 use Rattle.kip.proofs.lines.ending.Statement.{statement}
 use Rattle.kip.proofs.lines.ending.Tie as tie
 

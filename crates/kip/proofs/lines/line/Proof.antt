@@ -8,7 +8,6 @@ use Rattle.wire.specs.Written.{WritePromise}
 use Rattle.kip.specs.Line.{numbered}
 use Rattle.kip.specs.LineLaws.{framed-line, refused-line}
 use borrow.Author.Needs.{needs}
-use borrow.Author.Needs.{needs}
 use Rattle.kip.proofs.lines.line.Statement.{statement}
 use Rattle.kip.proofs.lines.line.Tie as tie
 

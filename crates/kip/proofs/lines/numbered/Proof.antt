@@ -6,7 +6,6 @@ use Rattle.kip.specs.Digits.{decimal}
 use Rattle.kip.specs.DigitLaws.{places-most}
 use Rattle.kip.specs.LineLaws.{no-room, laid}
 use borrow.Author.Needs.{needs}
-use borrow.Author.Needs.{needs}
 use Rattle.kip.proofs.lines.numbered.Statement.{statement}
 use Rattle.kip.proofs.lines.numbered.Tie as tie
 

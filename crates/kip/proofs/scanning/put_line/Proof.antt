@@ -9,7 +9,6 @@ use Rattle.wire.specs.Written.{WritePromise}
 use Rattle.kip.specs.Line.{lineOf}
 use Rattle.kip.specs.ScanLaws.{put-behind, to-the-end, no-place}
 use borrow.Author.Needs.{needs}
-use borrow.Author.Needs.{needs}
 use Rattle.kip.proofs.scanning.put_line.Statement.{statement}
 use Rattle.kip.proofs.scanning.put_line.Tie as tie
 

@@ -4,7 +4,6 @@ use Rattle.frame.specs.declared.fields.FrameAnswer.{FrameAnswer}
 use Rattle.views.specs.Kept.{empty-part}
 use Rattle.views.specs.KnxnetIp.{bodyOf}
 use borrow.Author.Needs.{needs}
-use borrow.Author.Needs.{needs}
 use Rattle.views.proofs.knxnet_ip.body_of.Statement.{statement}
 use Rattle.views.proofs.knxnet_ip.body_of.Tie as tie
 

@@ -9,7 +9,6 @@ use Rattle.frame.specs.Frame as Frame
 use Rattle.frame.specs.declared.fields.FrameAnswer.the-variants.{Frame}
 use Rattle.views.specs.Kept.{kept-all, kept-none, empty-part}
 use borrow.Author.Needs.{needs}
-use borrow.Author.Needs.{needs}
 use Rattle.views.proofs.knxnet_ip.held.Statement.{statement}
 use Rattle.views.proofs.knxnet_ip.held.Tie as tie
 

@@ -5,7 +5,6 @@ use Rattle.ldata.specs.LData as LData
 use Rattle.views.specs.Kept.{empty-part}
 use Rattle.views.specs.LDataLaws.{fields-data, refused-data}
 use borrow.Author.Needs.{needs}
-use borrow.Author.Needs.{needs}
 use Rattle.views.proofs.l_data.data_of.Statement.{statement}
 use Rattle.views.proofs.l_data.data_of.Tie as tie
 
