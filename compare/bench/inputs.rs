@@ -10,27 +10,13 @@ const SERVICES: [u16; 8] =
 const REQUEST: u16 = 0x0420;
 const ACKNOWLEDGEMENT: u16 = 0x0421;
 
-/// Byte strings, one behind the other.
-#[derive(Default)]
-pub struct Inputs {
-    bytes: Vec<u8>,
-    ends: Vec<usize>,
-}
+/// Byte strings, one behind the other in memory, for as long as the program runs.
+pub type Inputs = Vec<&'static [u8]>;
 
-impl Inputs {
-    pub fn of(count: usize, mut one: impl FnMut(usize) -> Vec<u8>) -> Inputs {
-        let mut inputs = Inputs::default();
-        for i in 0..count {
-            inputs.bytes.extend(one(i));
-            inputs.ends.push(inputs.bytes.len());
-        }
-        inputs
-    }
-
-    pub fn iter(&self) -> impl Iterator<Item = &[u8]> {
-        let mut start = 0;
-        self.ends.iter().map(move |&end| &self.bytes[std::mem::replace(&mut start, end)..end])
-    }
+pub fn lay_out(count: usize, one: impl FnMut(usize) -> Vec<u8>) -> Inputs {
+    let each: Vec<Vec<u8>> = (0..count).map(one).collect();
+    let mut rest: &'static [u8] = each.concat().leak();
+    each.iter().map(|input| rest.split_off(..input.len()).unwrap_or_default()).collect()
 }
 
 fn frame(service: u16, body: &[u8]) -> Vec<u8> {

@@ -16,7 +16,7 @@ fn main() {
     let words: Vec<String> = std::env::args().skip(1).collect();
     let mut cases = cases::all();
     match words.iter().map(String::as_str).collect::<Vec<_>>()[..] {
-        [] => print(&mut cases, "ns", |_, case| times(&mut *case.work, case.calls)),
+        [] => print(&mut cases, "ns", |_, case| times(&mut *case.work)),
         ["--instructions"] => print(&mut cases, "instructions", instructions),
         ["batch", place, side] => {
             let work = &mut cases[number(place)].work;
@@ -47,7 +47,8 @@ fn print(cases: &mut [Case], unit: &str, measure: impl Fn(usize, &mut Case) -> [
 }
 
 /// Nanoseconds of a call: the median round of each side, and the median of the rounds' ratios.
-fn times(work: &mut dyn Work, calls: usize) -> [f64; 3] {
+fn times(work: &mut dyn Work) -> [f64; 3] {
+    let calls = work.calls() as f64;
     let mut rounds = [const { Vec::new() }; 3];
     for round in 0..ROUNDS {
         let mut ns = [0.0; 2];
@@ -56,7 +57,7 @@ fn times(work: &mut dyn Work, calls: usize) -> [f64; 3] {
             work.reset(side);
             let start = Instant::now();
             work.batch(side);
-            ns[side] = start.elapsed().as_nanos() as f64 / calls as f64;
+            ns[side] = start.elapsed().as_nanos() as f64 / calls;
         }
         let [rust, port] = ns;
         rounds.iter_mut().zip([rust, port, port / rust]).for_each(|(all, one)| all.push(one));
@@ -71,9 +72,8 @@ fn median(mut values: Vec<f64>) -> f64 {
 
 /// Instructions of a call, its own and those of what it calls; what lies around it is not counted.
 fn instructions(place: usize, case: &mut Case) -> [f64; 3] {
-    let [rust, port] = [0, 1].map(|side| {
-        let symbol = case.symbols[side];
-        collected(place, side, symbol) / case.calls as f64
+    let [rust, port] = [("rust", 0), ("knx", 1)].map(|(prefix, side)| {
+        collected(place, side, &format!("{prefix}_{}", case.function)) / case.work.calls() as f64
     });
     [rust, port, port / rust]
 }

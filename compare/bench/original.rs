@@ -30,7 +30,7 @@ fn place(part: &[u8], whole: &[u8]) -> (usize, usize) {
 }
 
 #[no_mangle]
-pub unsafe extern "C" fn original_frame_parse(data: *const u8, length: usize) -> KnxFrame {
+pub unsafe extern "C" fn rust_frame_parse(data: *const u8, length: usize) -> KnxFrame {
     let data = from_raw_parts(data, length);
     match KnxnetIpFrame::parse(data) {
         Ok(frame) => {
@@ -43,7 +43,7 @@ pub unsafe extern "C" fn original_frame_parse(data: *const u8, length: usize) ->
 }
 
 #[no_mangle]
-pub unsafe extern "C" fn original_hpai_parse(data: *const u8, length: usize) -> KnxHpai {
+pub unsafe extern "C" fn rust_hpai_parse(data: *const u8, length: usize) -> KnxHpai {
     match Hpai::parse(from_raw_parts(data, length)) {
         Ok(hpai) => KnxHpai {
             structure_length: hpai.structure_length,
@@ -57,7 +57,7 @@ pub unsafe extern "C" fn original_hpai_parse(data: *const u8, length: usize) -> 
 }
 
 #[no_mangle]
-pub unsafe extern "C" fn original_connect_response(
+pub unsafe extern "C" fn rust_connect_response(
     body: *const u8,
     length: usize,
 ) -> KnxConnectResponse {
@@ -79,7 +79,7 @@ pub unsafe extern "C" fn original_connect_response(
 }
 
 #[no_mangle]
-pub unsafe extern "C" fn original_cemi_ldata(data: *const u8, length: usize) -> KnxLData {
+pub unsafe extern "C" fn rust_cemi_ldata(data: *const u8, length: usize) -> KnxLData {
     match cemi_ldata(from_raw_parts(data, length)) {
         Ok(answer) => answer,
         Err(error) => KnxLData { number: error.number(), ..KnxLData::default() },
@@ -123,7 +123,7 @@ fn written(answer: core::result::Result<usize, u8>) -> KnxWritten {
 }
 
 #[no_mangle]
-pub unsafe extern "C" fn original_tunneling_request(
+pub unsafe extern "C" fn rust_tunneling_request(
     channel: u8,
     sequence: u8,
     cemi: *const u8,
@@ -137,7 +137,7 @@ pub unsafe extern "C" fn original_tunneling_request(
 }
 
 #[no_mangle]
-pub unsafe extern "C" fn plain_ldata_build(
+pub unsafe extern "C" fn rust_ldata_build(
     ctrl1: u8,
     ctrl2: u8,
     source: u16,
@@ -165,12 +165,12 @@ fn called(answer: core::result::Result<Answer, u8>) -> KnxCalled {
 }
 
 #[no_mangle]
-pub unsafe extern "C" fn plain_table_open(table: *mut u8, _: usize, id: u8) -> KnxCalled {
+pub unsafe extern "C" fn rust_table_open(table: *mut u8, _: usize, id: u8) -> KnxCalled {
     called((*table.cast::<Table>()).open(id))
 }
 
 #[no_mangle]
-pub unsafe extern "C" fn plain_table_send(
+pub unsafe extern "C" fn rust_table_send(
     table: *mut u8,
     _: usize,
     id: u8,
@@ -184,7 +184,7 @@ pub unsafe extern "C" fn plain_table_send(
 }
 
 #[no_mangle]
-pub unsafe extern "C" fn plain_table_datagram(
+pub unsafe extern "C" fn rust_table_datagram(
     table: *mut u8,
     _: usize,
     bytes: *const u8,
