@@ -73,6 +73,23 @@ use Rattle.table.specs.Table as Table
 use Rattle.table.specs.Compiled as Compiled
 use Rattle.table.specs.declared.calls.Table.{Table}
 use Rattle.table.specs.declared.calls.Called.{Called}
+use Rattle.table.specs.declared.places.Place.{Place}
+use Rattle.tunnels.specs.Eight.{emptyOf}
+use Rattle.table.specs.Places.{kind}
+use Rattle.image.specs.Image as Image
+use Rattle.host.specs.Reading as Reading
+use Rattle.host.specs.CemiLData as CemiLData
+use Rattle.host.specs.Building as Building
+use Rattle.host.specs.BuildingLaws.{tells-refusing}
+use Rattle.host.specs.Called as HostCalled
+use Rattle.host.specs.CalledLaws as CalledLaws
+use Rattle.host.specs.declared.reading.KnxFrame.{KnxFrame}
+use Rattle.host.specs.declared.reading.KnxHpai.{KnxHpai}
+use Rattle.host.specs.declared.reading.KnxConnectResponse.{KnxConnectResponse}
+use Rattle.host.specs.declared.cemi_ldata.KnxLData.{KnxLData}
+use Rattle.host.specs.declared.building.KnxWritten.{KnxWritten}
+use Rattle.host.specs.declared.building.KnxEndpoint.{KnxEndpoint}
+use Rattle.host.specs.declared.called.KnxCalled.{KnxCalled}
 
 -- ---- wire
 
@@ -235,3 +252,65 @@ kip-ending n cut out = writes-refusing (room (length (Line.endingOf n cut)) (len
 pub table-calls : (t : Table) (c : Call) (r : Called) (after : List ℕ) → CallPromise t c r after → (r .number ≡ 0 → ⊥)
     → Zeros (Table.told r) × (after ≡ outOf c) × (r .table ≡ t)
 table-calls = Compiled.call-refusing
+
+-- ---- image
+
+pub image-pack : (l : List Place) (image : List ℕ) (r : Written) (after : List ℕ) → Image.PackPromise l image r after → Refusing (Written.told r) × Leaves (Written.told r) image after
+image-pack l = write (Image.packed l)
+
+-- ---- host: the readers, then the builders, whose refusals are those of the builders below
+
+pub host-frame-parse : (s : List ℕ) (r : KnxFrame) → Reading.FramePromise s r → Refusing (Reading.toldFrame r)
+host-frame-parse s r = judged-refusing (Frame.checks (length s) (get Header.fields 0 s)) (Reading.frameIn (get Header.fields 0 s)) (Reading.toldFrame r) refl
+
+pub host-hpai-parse : (s : List ℕ) (r : KnxHpai) → Reading.HpaiPromise s r → Refusing (Hpai.told (Reading.hpaiAnswer r))
+host-hpai-parse s r = hpai-parse s (Reading.hpaiAnswer r)
+
+pub host-connect-response : (s : List ℕ) (r : KnxConnectResponse) → Reading.ConnectResponsePromise s r → Refusing (ConnectRes.told (Reading.responseAnswer r))
+host-connect-response s r = connect-response-parse s (Reading.responseAnswer r)
+
+pub host-cemi-ldata : (s : List ℕ) (r : KnxLData) → CemiLData.CemiLDataPromise s r → Refusing (CemiLData.told r)
+host-cemi-ldata s r = judged-refusing (CemiLData.checks s) (CemiLData.ldataIn s) (CemiLData.told r) refl
+
+abbrev pub ToldRefuses : List ℕ → KnxWritten → List ℕ → Type 0
+ToldRefuses b r after = Refusing (Building.told r) × Leaves (Building.told r) b after
+
+pub host-ldata-build : (control-1 control-2 source destination tpci code six : ℕ) (d b : List ℕ) (r : KnxWritten) (after : List ℕ)
+    → Building.LDataBuildPromise control-1 control-2 source destination tpci code six d b r after → ToldRefuses b r after
+host-ldata-build control-1 control-2 source destination tpci code six d b =
+    let q = Building.builderOf control-1 control-2 source destination tpci code six in
+    tells-refusing (LDataBuilder.BuildPromise q d b) b (ldata-build q d b)
+
+pub host-connect-request : (control other : KnxEndpoint) (b : List ℕ) (r : KnxWritten) (after : List ℕ) → Building.ConnectRequestPromise control other b r after → ToldRefuses b r after
+host-connect-request control other b =
+    let q = Building.connectOf control other in
+    tells-refusing (ConnectReq.BuildPromise q b) b (connect-request-build q b)
+
+pub host-connectionstate-request : (channel : ℕ) (control : KnxEndpoint) (b : List ℕ) (r : KnxWritten) (after : List ℕ)
+    → Building.ConnectionStateRequestPromise channel control b r after → ToldRefuses b r after
+host-connectionstate-request channel control b =
+    tells-refusing (Channel.StateBuildPromise (Building.stateOf channel control) b) b (channel-request S.ConnectionstateRequest channel (Building.endpointOf control) b)
+
+pub host-disconnect-request : (channel : ℕ) (control : KnxEndpoint) (b : List ℕ) (r : KnxWritten) (after : List ℕ)
+    → Building.DisconnectRequestPromise channel control b r after → ToldRefuses b r after
+host-disconnect-request channel control b =
+    tells-refusing (Channel.DisconnectBuildPromise (Building.disconnectOf channel control) b) b (channel-request S.DisconnectRequest channel (Building.endpointOf control) b)
+
+pub host-tunneling-request : (channel sequence : ℕ) (cemi b : List ℕ) (r : KnxWritten) (after : List ℕ)
+    → Building.TunnelingRequestPromise channel sequence cemi b r after → ToldRefuses b r after
+host-tunneling-request channel sequence cemi b =
+    let q = Building.requestOf channel sequence in
+    tells-refusing (TunnelReq.BuildPromise q cemi b) b (tunnel-request-build q cemi b)
+
+pub host-tunneling-ack : (channel sequence status : ℕ) (b : List ℕ) (r : KnxWritten) (after : List ℕ) → Building.TunnelingAckPromise channel sequence status b r after → ToldRefuses b r after
+host-tunneling-ack channel sequence status b =
+    let q = Building.ackOf channel sequence status in
+    tells-refusing (Ack.BuildPromise q b) b (ack-build q b)
+
+pub host-table-empty : (image : List ℕ) (r : KnxWritten) (after : List ℕ) → HostCalled.EmptyPromise image r after → ToldRefuses image r after
+host-table-empty image = tells-refusing (Image.PackPromise (emptyOf kind) image) image (image-pack (emptyOf kind) image)
+
+-- the five calls alike; what is not changed is the output and the image
+pub host-table-calls : (image : List ℕ) (c : Call) (r : KnxCalled) (after out : List ℕ) → HostCalled.CallPromise image c r after out → (r .number ≡ 0 → ⊥)
+    → Zeros (HostCalled.told r) × (out ≡ outOf c) × (after ≡ image)
+host-table-calls = CalledLaws.call-refusing

@@ -18,6 +18,12 @@ use Rattle.table.specs.Compiled.{Ran, lastOf, lookIn, seenBy}
 use Rattle.table.specs.Compiled as Compiled
 use Rattle.table.specs.declared.calls.Table.{Table}
 use Rattle.table.specs.declared.calls.Called.{Called}
+use lib.ListN.{drop}
+use Rattle.image.specs.Demand3.{imageTable}
+use Rattle.image.specs.Demand3 as Image
+use Rattle.host.specs.Called as HostCalled
+use Rattle.host.specs.Runs as Runs
+use Rattle.host.specs.declared.building.KnxWritten.{KnxWritten}
 
 -- from any table that calls reach with B open, until B is closed, B's calls get what a lone tunnel gives that is fed B's calls only
 pub isolates : Isolates chan (tableOf kind)
@@ -49,3 +55,17 @@ pub compiled-isolates : (start : Table) (before calls : List Call) (first then :
     → EmptyPromise start → Ran start before first → Ran (lastOf start first) calls then → lookIn b (lastOf start first) ≡ some p
     → seenBy b (lastOf start first) calls then ≡ loneTrace chan (some p) (callsOf chan b calls)
 compiled-isolates = Compiled.compiled-isolates
+
+-- the same of a table that is lent as a byte image, from the image of the empty table with any bytes behind it
+pub image-isolates : (rest : List ℕ) → Isolates chan (imageTable rest)
+image-isolates = Image.image-isolates
+
+pub image-opens : (rest : List ℕ) → Opens chan 8 (imageTable rest)
+image-opens = Image.image-opens
+
+-- so calls from C on an image that `knx_table_empty` wrote give B what the lone tunnel gives
+pub border-isolates : (image start : List ℕ) (w : KnxWritten) (before calls : List Call) (first then : List Runs.Gave) (b : ℕ) (p : Tunnel)
+    → HostCalled.EmptyPromise image w start → w .number ≡ 0 → Runs.Ran start before first → Runs.Ran (Runs.lastOf start first) calls then
+    → Runs.lookIn (drop 40 image) b (Runs.lastOf start first) ≡ some p
+    → Runs.seenBy (drop 40 image) b (Runs.lastOf start first) calls then ≡ loneTrace chan (some p) (callsOf chan b calls)
+border-isolates = Runs.border-isolates

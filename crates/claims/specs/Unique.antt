@@ -70,6 +70,18 @@ use Rattle.table.specs.Table.{EmptyPromise, CallPromise}
 use Rattle.table.specs.Compiled as Compiled
 use Rattle.table.specs.declared.calls.Table.{Table}
 use Rattle.table.specs.declared.calls.Called.{Called}
+use Rattle.image.specs.Image as Image
+use Rattle.image.specs.ImageLaws as ImageLaws
+use Rattle.host.specs.Reading as Reading
+use Rattle.host.specs.ReadingLaws as ReadingLaws
+use Rattle.host.specs.CemiLData as CemiLData
+use Rattle.host.specs.CemiLDataLaws as CemiLDataLaws
+use Rattle.host.specs.Building as Building
+use Rattle.host.specs.BuildingLaws as BuildingLaws
+use Rattle.host.specs.Called as HostCalled
+use Rattle.host.specs.CalledLaws as CalledLaws
+use Rattle.host.specs.declared.building.KnxWritten.{KnxWritten}
+use Rattle.host.specs.declared.called.KnxCalled.{KnxCalled}
 
 -- a promise over one, two or three inputs
 abbrev pub One : {A R : Type 0} → (A → R → Type 0) → Type 0
@@ -648,3 +660,84 @@ kip-line = LineLaws.line-one
 -- kip::ending
 pub kip-ending : Lent₂ Line.EndingPromise
 kip-ending = LineLaws.ending-one
+
+-- ---- image
+
+-- image::unpack
+pub image-unpack : One Image.UnpackPromise
+image-unpack = ImageLaws.unpack-one
+
+-- image::pack
+pub image-pack : Lent Image.PackPromise
+image-pack = ImageLaws.pack-one
+
+-- ---- host
+
+-- host::knx_frame_parse
+pub host-frame-parse : One Reading.FramePromise
+host-frame-parse = ReadingLaws.frame-one
+
+-- host::knx_hpai_parse
+pub host-hpai-parse : One Reading.HpaiPromise
+host-hpai-parse = ReadingLaws.hpai-one
+
+-- host::knx_connect_response
+pub host-connect-response : One Reading.ConnectResponsePromise
+host-connect-response = ReadingLaws.connect-response-one
+
+-- host::knx_cemi_ldata
+pub host-cemi-ldata : One CemiLData.CemiLDataPromise
+host-cemi-ldata = CemiLDataLaws.cemi-ldata-one
+
+-- host::knx_ldata_build
+pub host-ldata-build : (control-1 control-2 source destination tpci code six : ℕ) → Lent (Building.LDataBuildPromise control-1 control-2 source destination tpci code six)
+host-ldata-build = BuildingLaws.ldata-build-one
+
+-- host::knx_connect_request
+pub host-connect-request : Lent₂ Building.ConnectRequestPromise
+host-connect-request = BuildingLaws.connect-request-one
+
+-- host::knx_connectionstate_request
+pub host-connectionstate-request : Lent₂ Building.ConnectionStateRequestPromise
+host-connectionstate-request = BuildingLaws.connectionstate-request-one
+
+-- host::knx_disconnect_request
+pub host-disconnect-request : Lent₂ Building.DisconnectRequestPromise
+host-disconnect-request = BuildingLaws.disconnect-request-one
+
+-- host::knx_tunneling_request
+pub host-tunneling-request : Lent₃ Building.TunnelingRequestPromise
+host-tunneling-request = BuildingLaws.tunneling-request-one
+
+-- host::knx_tunneling_ack
+pub host-tunneling-ack : Lent₃ Building.TunnelingAckPromise
+host-tunneling-ack = BuildingLaws.tunneling-ack-one
+
+-- host::knx_table_empty
+pub host-table-empty : (image : List ℕ) (r q : KnxWritten) (after later : List ℕ) → HostCalled.EmptyPromise image r after → HostCalled.EmptyPromise image q later → (r ≡ q) × (after ≡ later)
+host-table-empty = CalledLaws.empty-one
+
+-- of the answer, the image and the output afterwards
+abbrev pub OneImage : Call → Type 0
+OneImage c = (image : List ℕ) (r q : KnxCalled) (after later out last : List ℕ) → HostCalled.CallPromise image c r after out → HostCalled.CallPromise image c q later last
+    → (r ≡ q) × (after ≡ later) × (out ≡ last)
+
+-- host::knx_table_open
+pub host-table-open : (id : ℕ) → OneImage (Open id)
+host-table-open id image = CalledLaws.call-one image (Open id)
+
+-- host::knx_table_close
+pub host-table-close : (id : ℕ) → OneImage (Close id)
+host-table-close id image = CalledLaws.call-one image (Close id)
+
+-- host::knx_table_timeout
+pub host-table-timeout : (id : ℕ) → OneImage (Timeout id)
+host-table-timeout id image = CalledLaws.call-one image (Timeout id)
+
+-- host::knx_table_send
+pub host-table-send : (id : ℕ) (cemi out : List ℕ) → OneImage (Send id cemi out)
+host-table-send id cemi out image = CalledLaws.call-one image (Send id cemi out)
+
+-- host::knx_table_datagram
+pub host-table-datagram : (bytes out : List ℕ) → OneImage (Datagram bytes out)
+host-table-datagram bytes out image = CalledLaws.call-one image (Datagram bytes out)

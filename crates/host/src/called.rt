@@ -1,0 +1,126 @@
+// The calls on a table of eight tunnels, over the byte image that the host lends.
+ghost use mathlib.Core.Path.{_≡_};
+ghost use Rattle.tunnels.specs.Calls.{saidOf};
+ghost use Rattle.host.specs.Called.{KeepPromise, EmptyPromise, TooSmallPromise, OpenPromise, ClosePromise, TimeoutPromise, SendPromise, DatagramPromise};
+use crate::building;
+use crate::building::KnxWritten;
+use table::Called;
+use table::Table;
+use tunnel::Said;
+use wire::Refusal;
+
+// A number of 01 and, beside 0, what is said, the view and the count of bytes written to the output.
+#[repr(C)]
+pub struct KnxCalled {
+    pub start: usize,
+    pub end: usize,
+    pub written: usize,
+    pub said: u8,
+    pub number: u8,
+}
+
+#[no_mangle]
+pub extern "C" fn knx_table_empty(image: &mut [u8]) -> KnxWritten
+    ensures { λ r. ⌜ EmptyPromise (now (image .entry)) r (now (image .exit)) ⌝ }
+{
+    let table = Table::empty();
+    let places = table.places;
+    building::written(image::pack(places, image))
+}
+
+#[no_mangle]
+pub extern "C" fn knx_table_open(image: &mut [u8], id: u8) -> KnxCalled
+    ensures { λ r. ⌜ OpenPromise (now (image .entry)) id r (now (image .exit)) ⌝ }
+{
+    if image.len() < image::SIZE {
+        return too_small();
+    }
+    keep(image::unpack(image).open(id), image)
+}
+
+#[no_mangle]
+pub extern "C" fn knx_table_close(image: &mut [u8], id: u8) -> KnxCalled
+    ensures { λ r. ⌜ ClosePromise (now (image .entry)) id r (now (image .exit)) ⌝ }
+{
+    if image.len() < image::SIZE {
+        return too_small();
+    }
+    keep(image::unpack(image).close(id), image)
+}
+
+#[no_mangle]
+pub extern "C" fn knx_table_timeout(image: &mut [u8], id: u8) -> KnxCalled
+    ensures { λ r. ⌜ TimeoutPromise (now (image .entry)) id r (now (image .exit)) ⌝ }
+{
+    if image.len() < image::SIZE {
+        return too_small();
+    }
+    keep(image::unpack(image).timeout(id), image)
+}
+
+#[no_mangle]
+pub extern "C" fn knx_table_send(image: &mut [u8], id: u8, cemi: &[u8], out: &mut [u8]) -> KnxCalled
+    ensures { λ r. ⌜ SendPromise (now (image .entry)) id (now (cemi .entry)) (now (out .entry)) r (now (image .exit)) (now (out .exit)) ⌝ }
+{
+    if image.len() < image::SIZE {
+        return too_small();
+    }
+    keep(image::unpack(image).send(id, cemi, out), image)
+}
+
+#[no_mangle]
+pub extern "C" fn knx_table_datagram(image: &mut [u8], bytes: &[u8], out: &mut [u8]) -> KnxCalled
+    ensures { λ r. ⌜ DatagramPromise (now (image .entry)) (now (bytes .entry)) (now (out .entry)) r (now (image .exit)) (now (out .exit)) ⌝ }
+{
+    if image.len() < image::SIZE {
+        return too_small();
+    }
+    keep(image::unpack(image).datagram(bytes, out), image)
+}
+
+// What a call on the table gave, as numbers; the table is packed again unless the call was refused.
+fn keep(called: Called, image: &mut [u8]) -> KnxCalled
+    ensures { λ r. ⌜ KeepPromise called (now (image .entry)) r (now (image .exit)) ⌝ }
+{
+    let said = called.said;
+    let table = called.table;
+    let places = table.places;
+    let answer = KnxCalled {
+        start: called.start,
+        end: called.end,
+        written: called.written,
+        said: said_number(said),
+        number: called.number,
+    };
+    if called.number == 0 {
+        image::pack(places, image);
+    }
+    answer
+}
+
+fn too_small() -> KnxCalled
+    ensures { λ r. ⌜ TooSmallPromise r ⌝ }
+{
+    KnxCalled {
+        start: 0,
+        end: 0,
+        written: 0,
+        said: 0,
+        number: Refusal::BufferTooSmall.number(),
+    }
+}
+
+fn said_number(said: Said) -> u8
+    ensures { λ r. ⌜ r ≡ saidOf said ⌝ }
+{
+    match said {
+        Said::Nothing => 0,
+        Said::Repeat => 1,
+        Said::GiveUp => 2,
+        Said::Deliver => 3,
+        Said::Duplicate => 4,
+        Said::OutOfOrder => 5,
+        Said::Sent => 6,
+        Said::Ignored => 7,
+    }
+}

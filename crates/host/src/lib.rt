@@ -1,0 +1,13 @@
+// The C border: the calls that a host makes often, over numbers and lent bytes. Each is thin over a proved function of a crate below; include/knx.h declares them.
+mod building;
+mod called;
+mod cemi_ldata;
+mod reading;
+
+pub use building::KnxEndpoint;
+pub use building::KnxWritten;
+pub use called::KnxCalled;
+pub use cemi_ldata::KnxLData;
+pub use reading::KnxConnectResponse;
+pub use reading::KnxFrame;
+pub use reading::KnxHpai;

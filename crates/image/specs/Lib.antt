@@ -1,0 +1,5 @@
+-- What `image` promises, in reading order: definitions, laws, demand 3.
+pub mod Image
+pub mod ImageLaws
+pub mod Viewing
+pub mod Demand3
