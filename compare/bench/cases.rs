@@ -2,7 +2,8 @@
 
 use crate::inputs::{self, lay_out, Inputs, CALLS};
 use crate::random::Rng;
-use original::border::*;
+use original::border::declared::*;
+use original::border::{KnxCalled, KnxWritten};
 use original::tunnel_table::Table;
 use original::*;
 use std::fmt::Debug;
@@ -38,6 +39,9 @@ fn case(
 
 // Reading
 
+/// Of bytes and their length.
+type Read<R> = unsafe extern "C" fn(*const u8, usize) -> R;
+
 struct Reads<R> {
     sides: [Read<R>; 2],
     inputs: Inputs,
@@ -64,6 +68,14 @@ impl<R: Debug + PartialEq> Work for Reads<R> {
 }
 
 // Building
+
+/// Of channel, sequence, cEMI, buffer
+type Request = unsafe extern "C" fn(u8, u8, *const u8, usize, *mut u8, usize) -> KnxWritten;
+
+/// Of control 1, control 2, source, destination, TPCI byte, APCI code, six-bit number, data, buffer
+#[rustfmt::skip]
+type LDataBuild =
+    unsafe extern "C" fn(u8, u8, u16, u16, u8, u16, u8, *const u8, usize, *mut u8, usize) -> KnxWritten;
 
 const ROOM: usize = 600;
 
@@ -114,6 +126,15 @@ impl<B: Build> Work for Builds<B> {
 }
 
 // The tunnel table
+
+/// Of a table's memory and an id.
+type Open = unsafe extern "C" fn(*mut u8, usize, u8) -> KnxCalled;
+
+/// Of a table's memory, id, cEMI, output
+type Send = unsafe extern "C" fn(*mut u8, usize, u8, *const u8, usize, *mut u8, usize) -> KnxCalled;
+
+/// Of a table's memory, datagram, output
+type Datagram = unsafe extern "C" fn(*mut u8, usize, *const u8, usize, *mut u8, usize) -> KnxCalled;
 
 /// The memory of a table, on both sides.
 type Memory = [u8; 40];
