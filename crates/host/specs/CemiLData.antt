@@ -10,7 +10,7 @@ use Rattle.wire.specs.declared.refusals.Refusal.{Refusal}
 use Rattle.constants.specs.MessageCodes.{messageOf}
 use Rattle.pci.specs.Application as Application
 use Rattle.ldata.specs.Count.{startOf, crateCount}
-use Rattle.ldata.specs.LData.{tpciIn, lengthIn, dataByte, held, byteChecks}
+use Rattle.ldata.specs.LData.{tpciIn, lengthIn, dataByte, apciIn, held, byteChecks}
 use Rattle.ldata.specs.LData as LData
 use Rattle.ldata.specs.declared.fields.LDataFields.{LDataFields}
 use Rattle.ldata.specs.declared.fields.LDataAnswer.the-variants.{Frame}
@@ -50,14 +50,25 @@ codeOfBytes d first second = cond d (Application.codeIn first second) 0
 abbrev pub sixBitIn : Bool → ℕ → ℕ
 sixBitIn d second = cond d (second % 64) 0
 
+-- whether the APCI of two bytes is named, as the record tells it
+abbrev pub namedIn : Bool → ℕ → ℕ → ℕ
+namedIn d first second = getD (Application.values (apciIn d first second)) 0 0
+
+-- the numbers of a cEMI code, of the bytes behind the additional information, and of a view
+abbrev pub numbersIn : List ℕ → ℕ → ℕ → ℕ → Told
+numbersIn rest code start end = record {
+  number = 0;
+  values = code ∷ held rest ++ sixBitIn (dataIn rest) (getD rest 8 0) ∷ [];
+  start = start;
+  end = end;
+}
+
 -- the view of the data is that of L_Data, moved by where L_Data starts
 abbrev pub ldataIn : List ℕ → Told
-ldataIn s = record {
-  number = 0;
-  values = codeIn s ∷ held (serviceInfo s) ++ sixBitIn (dataIn (serviceInfo s)) (getD (serviceInfo s) 8 0) ∷ [];
-  start = 2 + infoLength s + startOf (dataIn (serviceInfo s));
-  end = 2 + infoLength s + crateCount .endOf (lengthIn (get LData.fields 0 (serviceInfo s)));
-}
+ldataIn s =
+    numbersIn (serviceInfo s) (codeIn s)
+    (2 + infoLength s + startOf (dataIn (serviceInfo s)))
+    (2 + infoLength s + crateCount .endOf (lengthIn (get LData.fields 0 (serviceInfo s))))
 
 abbrev pub CemiLDataPromise : List ℕ → KnxLData → Type 0
 CemiLDataPromise s r = told r ≡ judged (checks s) (ldataIn s)
@@ -72,3 +83,6 @@ Accepted s f = LData.ParsePromise (serviceInfo s) (Frame f)
 
 abbrev pub ReadPromise : List ℕ → KnxLData → Type 0
 ReadPromise s r = told r ≡ ldataIn s
+
+abbrev pub NumbersPromise : List ℕ → ℕ → ℕ → ℕ → KnxLData → Type 0
+NumbersPromise rest code start end r = told r ≡ numbersIn rest code start end

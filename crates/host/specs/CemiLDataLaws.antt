@@ -1,15 +1,14 @@
 -- From cEMI to L_Data at the border: how it goes on from the answers below, that the numbers read from the bytes agree with what the records below tell, and no second answer. Assumes nothing.
-use Prim.Native.Nat.{ℕ, _+_, _≤_, _/_}
+use Prim.Native.Nat.{ℕ, zero, suc, _+_, _*_, _<_, _≤_, _/_, _%_}
 use native.Mathlib.Omega.{arith}
 use mathlib.Core.Path.{_≡_, refl, sym, ap, subst, _∙_}
 use mathlib.Core.Bool.{Bool, true, false, cond}
 use mathlib.Core.List.{List, [], _∷_, _++_}
-use lib.ListN.{length, getD, drop}
+use lib.ListN.{length, getD}
 use lib.Dec.{eqb, ltb}
-use borrow.Author.Tests.{eq-eqb}
+use borrow.Author.Tests.{eqb-true, eqb-false}
 use Rattle.wire.specs.Told.{Told, done, viewed, Check, _⇒_, verdict, judged}
 use Rattle.wire.specs.ToldLaws.{one-to-one, same, stays, let-pass, let-refuse, let-through, was-accepted, was-refused}
-use Rattle.wire.specs.Layout.{wordAt}
 use Rattle.wire.specs.Parts.{partOf}
 use Rattle.wire.specs.Parts as Parts
 use Rattle.wire.specs.declared.parts.View.{View}
@@ -18,14 +17,13 @@ use Rattle.wire.specs.declared.refusals.Verdict.the-variants.{Accept, Refuse}
 use Rattle.constants.specs.MessageCodes.{codeOf, messageOf}
 use Rattle.constants.specs.MessageCodeLaws as MessageCodeLaws
 use Rattle.constants.specs.declared.message_code.CEMIMessageCode.{CEMIMessageCode}
-use Rattle.pci.specs.Transport.{isData, sequenceOf}
+use Rattle.pci.specs.Transport.{isData}
 use Rattle.pci.specs.Transport as Transport
-use Rattle.pci.specs.Application.{isUnknown, isNamed}
+use Rattle.pci.specs.Application.{apciOf}
 use Rattle.pci.specs.Application as Application
-use Rattle.pci.specs.PciLaws.{behind-tpci, apciFrom, apci-back, code-back}
+use Rattle.pci.specs.PciLaws.{code-back}
 use Rattle.pci.specs.declared.transport.Tpci.{Tpci}
 use Rattle.pci.specs.declared.transport.Tpci.the-variants.{UnnumberedData, NumberedData, UnnumberedControl, NumberedControl}
-use Rattle.pci.specs.declared.application.Apci.{Apci}
 use Rattle.ldata.specs.Count.{startOf, crateCount}
 use Rattle.ldata.specs.LData.{apciIn, values, held, byteChecks, DataPromise}
 use Rattle.ldata.specs.LData as LData
@@ -38,16 +36,18 @@ use Rattle.cemi.specs.Cemi as Cemi
 use Rattle.cemi.specs.CemiLaws as CemiLaws
 use Rattle.cemi.specs.declared.CEMIFrame.{CEMIFrame}
 use Rattle.cemi.specs.declared.CEMIAnswer.the-variants as C
-use Rattle.host.specs.CemiLData.{told, frameIn, checks, dataIn, codeOfBytes, sixBitIn, ldataIn, CemiLDataPromise, RefusedPromise, Accepted, ReadPromise}
+use Rattle.host.specs.CemiLData.{told, frameIn, checks, dataIn, codeOfBytes, sixBitIn, namedIn, numbersIn, ldataIn, CemiLDataPromise, RefusedPromise, Accepted, ReadPromise}
 use Rattle.host.specs.declared.cemi_ldata.KnxLData.{KnxLData}
 
 -- ---- on from the two answers below
 
 -- the record that the parse made is the one of the bytes
+code-is : (s : List ℕ) (f : CEMIFrame) → Cemi.ParsePromise s (C.Frame f) → codeOf (f .«message_code») ≡ codeIn s
+code-is s f p = ap (λ (t : Told). getD (t .values) 0 0) (let-through (Cemi.checks s) (done (codeIn s ∷ [])) (Cemi.told (C.Frame f)) refl p)
+
 frame-is : (s : List ℕ) (f : CEMIFrame) → Cemi.ParsePromise s (C.Frame f) → f ≡ frameIn s
 frame-is s f p =
-    let code : codeOf (f .«message_code») ≡ codeIn s = ap (λ (t : Told). getD (t .values) 0 0) (let-through (Cemi.checks s) (done (codeIn s ∷ [])) (Cemi.told (C.Frame f)) refl p) in
-    ap (λ (m : CEMIMessageCode). record { «message_code» = m }) (sym (MessageCodeLaws.back (f .«message_code»)) ∙ ap messageOf code)
+    ap (λ (m : CEMIMessageCode). record { «message_code» = m }) (sym (MessageCodeLaws.back (f .«message_code»)) ∙ ap messageOf (code-is s f p))
 
 -- where all checks hold, so do the last
 last-hold : (cs ds : List Check) → verdict (cs ++ ds) ≡ Accept → verdict ds ≡ Accept
@@ -91,32 +91,14 @@ kind-first (NumberedData q) vs = refl
 kind-first UnnumberedControl vs = refl
 kind-first (NumberedControl q) vs = refl
 
--- a service is named of its own code
-own-code : (a : Apci) (code : ℕ) → code ≡ Application.codeOf a → _≡_ {A = ℕ} (cond (isNamed a code) 1 0) (cond (isUnknown a) 0 1)
-own-code a code e = go (isUnknown a)
-  where
-    go : (b : Bool) → _≡_ {A = ℕ} (cond (cond b false (eqb (Application.codeOf a) code)) 1 0) (cond b 0 1)
-    go true = refl
-    go false = simp (eq-eqb (Application.codeOf a) code (sym e))
-
-code-in : (d : Bool) (first second : ℕ) → codeOfBytes d first second ≡ Application.codeOf (apciIn d first second)
+-- the code of the bytes is the one of the record's APCI
+pub code-in : (d : Bool) (first second : ℕ) → codeOfBytes d first second ≡ Application.codeOf (apciIn d first second)
 code-in true first second = sym (code-back (Application.codeIn first second))
 code-in false first second = refl
 
 module _ (rest : List ℕ) (f : LDataFields) (parsed : LData.ParsePromise rest (L.Frame f)) where
   nine : values f ≡ held rest
   nine = LDataLaws.read crateCount rest f parsed
-
-  apci-is : f .apci ≡ apciIn (dataIn rest) (getD rest 7 0) (getD rest 8 0)
-  apci-is =
-      let vs : List ℕ = Application.values (f .apci) in
-      sym (apci-back (f .apci)) ∙ ap apciFrom (sym (behind-tpci (f .tpci) vs) ∙ ap (drop 7) nine) ∙ apci-back (apciIn (dataIn rest) (getD rest 7 0) (getD rest 8 0))
-
-  named-is : (code : ℕ) (named : Bool) → code ≡ codeOfBytes (dataIn rest) (getD rest 7 0) (getD rest 8 0) → named ≡ isNamed (f .apci) code
-      → _≡_ {A = ℕ} (cond named 1 0) (cond (isUnknown (apciIn (dataIn rest) (getD rest 7 0) (getD rest 8 0))) 0 1)
-  named-is code named e n =
-      let a : Apci = apciIn (dataIn rest) (getD rest 7 0) (getD rest 8 0) in
-      ap (λ (b : Bool). cond b 1 0) (n ∙ ap (λ (x : Apci). isNamed x code) apci-is) ∙ own-code a code (e ∙ code-in (dataIn rest) (getD rest 7 0) (getD rest 8 0))
 
   data-is : isData (f .tpci) ≡ dataIn rest
   data-is =
@@ -149,25 +131,75 @@ view-within s f p rest r v view =
     let at = view-is rest f parsed v view in
     (omega (arith, at .0, start-most (dataIn rest)), omega (arith, at .1, LDataLaws.stands crateCount rest f parsed .reaches))
 
--- every number, as it was read: where the rest starts, TPCI and APCI bytes, the APCI's code and whether it is named, and the data's view
-pub reads : (s : List ℕ) (f : LDataFields) → Accepted s f → (base : ℕ) (rest : List ℕ) → base ≡ infoLength s → rest ≡ serviceInfo s
-    → (first second : ℕ) → first ≡ getD rest 7 0 → second ≡ getD rest 8 0
-    → (code : ℕ) (named : Bool) → code ≡ codeOfBytes (ltb (first / 64) 2) first second → named ≡ isNamed (f .apci) code
-    → (v : View) → DataPromise f rest v
-    → record {
+-- the L_Data has nine bytes or more
+pub nine-bytes : (s : List ℕ) (f : LDataFields) → Accepted s f → (rest : List ℕ) → rest ≡ serviceInfo s → 9 ≤ length rest
+nine-bytes s f p rest r =
+    LDataLaws.stands crateCount rest f (subst (λ (l : List ℕ). LData.ParsePromise l (L.Frame f)) (sym r) p) .enough
+
+-- what was read: n is the length of the additional information
+pub reads : (s : List ℕ) (f : LDataFields) → Accepted s f → (n code : ℕ) (rest : List ℕ) → n ≡ infoLength s → code ≡ codeIn s → rest ≡ serviceInfo s
+    → (v : View) → DataPromise f rest v → numbersIn rest code (2 + n + v .start) (2 + n + v .end) ≡ ldataIn s
+reads s f p n code rest e c r v view =
+    let at = view-is rest f (subst (λ (l : List ℕ). LData.ParsePromise l (L.Frame f)) (sym r) p) v view in
+    rw (at .0, at .1, e, c, r)
+
+-- ---- which codes are named
+
+-- every number below n passes
+abbrev below : ℕ → (ℕ → Bool) → Bool
+below zero q = true
+below (suc n) q = cond (q n) (below n q) false
+
+below-at : (n : ℕ) (q : ℕ → Bool) (k : ℕ) → below n q ≡ true → k < n → q k ≡ true
+below-at zero q k e h = absurd (omega arith)
+below-at (suc n) q k e h = go (q n) refl e (below-at n q k)
+  where
+    last : (b : Bool) → eqb k n ≡ b → q n ≡ true → below n q ≡ true → (below n q ≡ true → k < n → q k ≡ true) → q k ≡ true
+    last true i t later-all later = ap q (eqb-true k n i) ∙ t
+    last false i t later-all later = later later-all (let ne = eqb-false k n i in omega arith)
+
+    go : (b : Bool) → q n ≡ b → cond b (below n q) false ≡ true → (below n q ≡ true → k < n → q k ≡ true) → q k ≡ true
+    go true t all later = last (eqb k n) refl t all later
+    go false t all later = absurd (let z : _≡_ {A = ℕ} 0 1 = cc in omega arith)
+
+-- all of the sixteen but three
+abbrev pub namedCode : ℕ → ℕ
+namedCode n = cond (eqb n 0x2C0) 0 (cond (eqb n 0x380) 0 (cond (eqb n 0x3C0) 0 1))
+
+abbrev tellsName : ℕ → Bool
+tellsName k = eqb (getD (Application.values (apciOf (k * 64))) 0 0) (namedCode (k * 64))
+
+pub named-of : (first second : ℕ) → second < 256 → namedIn true first second ≡ namedCode (Application.codeIn first second)
+named-of first second h =
+    let k : ℕ = first % 4 * 4 + second / 64 in
+    let is : Application.codeIn first second ≡ k * 64 = omega arith in
+    let found : tellsName k ≡ true = below-at 16 tellsName k refl (omega arith) in
+    ap (λ (n : ℕ). getD (Application.values (apciOf n)) 0 0) is
+    ∙ eqb-true (getD (Application.values (apciOf (k * 64))) 0 0) (namedCode (k * 64)) found
+    ∙ ap namedCode (sym is)
+
+-- the numbers that are told are those of the records that `parse`, `as_ldata` and `data` answer
+pub ldata-as : (s : List ℕ) (r : KnxLData) (f : CEMIFrame) (g : LDataFields) (v : View)
+    → CemiLDataPromise s r → Cemi.ParsePromise s (C.Frame f) → Cemi.AsLDataPromise f s (L.Frame g) → DataPromise g (serviceInfo s) v
+    → told r ≡ record {
       number = 0;
-      values =
-          getD s 0 0 ∷ getD rest 0 0 ∷ getD rest 1 0 ∷ wordAt rest 2 ∷ wordAt rest 4 ∷ getD rest 6 0 ∷ first / 64 ∷ sequenceOf first
-          ∷ cond named 1 0 ∷ code ∷ sixBitIn (ltb (first / 64) 2) second ∷ [];
-      start = 2 + base + v .start;
-      end = 2 + base + v .end;
-    } ≡ ldataIn s
-reads s f p base rest b r first second x y code named e n v view =
-    let parsed : LData.ParsePromise rest (L.Frame f) = subst (λ (l : List ℕ). LData.ParsePromise l (L.Frame f)) (sym r) p in
-    let at = view-is rest f parsed v view in
-    let read : code ≡ codeOfBytes (dataIn rest) (getD rest 7 0) (getD rest 8 0) =
-    e ∙ ap (λ (k : ℕ). codeOfBytes (ltb (k / 64) 2) k second) x ∙ ap (codeOfBytes (dataIn rest) (getD rest 7 0)) y in
-    rw (named-is rest f parsed code named read n, read ∙ code-in (dataIn rest) (getD rest 7 0) (getD rest 8 0), x, y, b, at .0, at .1, r)
+      values = codeOf (f .«message_code») ∷ values g ++ sixBitIn (isData (g .tpci)) (getD (serviceInfo s) 8 0) ∷ [];
+      start = 2 + infoLength s + v .start;
+      end = 2 + infoLength s + v .end;
+    }
+ldata-as s r f g v p parsed read view =
+    let rest : List ℕ = serviceInfo s in
+    let on-rest : LData.ParsePromise rest (L.Frame g) = accepted s f parsed g read in
+    let at = view-is rest g on-rest v view in
+    let of : ℕ → List ℕ → Bool → ℕ → ℕ → Told = λ code vs d a e.
+    record { number = 0; values = code ∷ vs ++ sixBitIn d (getD rest 8 0) ∷ []; start = 2 + infoLength s + a; end = 2 + infoLength s + e } in
+    p ∙ let-pass (checks s) (ldataIn s) (was-accepted (checks s) (done (held rest)) (LData.told (L.Frame g)) refl (judged-as s f parsed (L.Frame g) read))
+    ∙ sym
+    (ap (λ (code : ℕ). of code (values g) (isData (g .tpci)) (v .start) (v .end)) (code-is s f parsed)
+    ∙ ap (λ (vs : List ℕ). of (codeIn s) vs (isData (g .tpci)) (v .start) (v .end)) (nine rest g on-rest)
+    ∙ ap (λ (d : Bool). of (codeIn s) (held rest) d (v .start) (v .end)) (data-is rest g on-rest)
+    ∙ ap (λ (a : ℕ). of (codeIn s) (held rest) (dataIn rest) a (v .end)) (at .0)
+    ∙ ap (of (codeIn s) (held rest) (dataIn rest) (startOf (dataIn rest))) (at .1))
 
 -- ---- no second answer
 

@@ -18,10 +18,11 @@ use Rattle.host.specs.declared.reading.KnxConnectResponse.{KnxConnectRes
 abbrev pub toldFrame : KnxFrame → Told
 toldFrame r = record { number = r .number; values = r .service ∷ r .total ∷ []; start = r .start; end = r .end }
 
--- the frame's checks; then service and total length, and the body, which runs from offset 6 to the total length
+-- service and total length, and the body, which runs from offset 6 to the total length
 abbrev pub frameIn : List ℕ → Told
 frameIn vs = record { number = 0; values = serviceIn vs ∷ totalIn vs ∷ []; start = 6; end = totalIn vs }
 
+-- once the frame's checks hold
 abbrev pub frameBy01 : List ℕ → Told
 frameBy01 s = judged (Frame.checks (length s) (get fields 0 s)) (frameIn (get fields 0 s))
 

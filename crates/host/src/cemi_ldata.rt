@@ -1,7 +1,8 @@
 // From cEMI to L_Data in one call.
 ghost use mathlib.Core.Path.{_≡_};
-ghost use mathlib.Core.Bool.{cond};
-ghost use Rattle.host.specs.CemiLData.{CemiLDataPromise, RefusedPromise, Accepted, ReadPromise, codeOfBytes, sixBitIn};
+ghost use Prim.Native.Nat.{_≤_};
+ghost use lib.ListN.{length};
+ghost use Rattle.host.specs.CemiLData.{CemiLDataPromise, RefusedPromise, Accepted, ReadPromise, NumbersPromise, codeOfBytes, namedIn, sixBitIn};
 ghost use Rattle.pci.specs.Transport.{sequenceOf};
 use cemi::CEMIAnswer;
 use cemi::CEMIFrame;
@@ -41,32 +42,43 @@ pub extern "C" fn knx_cemi_ldata(data: &[u8]) -> KnxLData
     }
 }
 
-// The numbers are read off the bytes, which costs less than by way of their names.
+// L_Data is known to be accepted: where it starts, and where its data stands.
 fn read(data: &[u8], fields: LDataFields) -> KnxLData
     requires { ⌜ Accepted (now «data») fields ⌝ }
     ensures { λ r. ⌜ ReadPromise (now («data» .entry)) r ⌝ }
 {
     let base = 2 + wire::byte_at(data, 1) as usize;
     let rest = wire::part(data, base, data.len());
-    let tpci = wire::byte_at(rest, 7);
-    let second = wire::byte_at(rest, 8);
-    let is_data = tpci / 64 < 2;
-    let apci_code = code_of(is_data, tpci, second);
-    let apci = fields.apci;
     let view = fields.data(rest);
+    numbers(
+        rest,
+        wire::byte_at(data, 0),
+        base + view.start,
+        base + view.end,
+    )
+}
+
+// The numbers are read off the bytes, which costs less than by way of their names.
+fn numbers(rest: &[u8], message_code: u8, start: usize, end: usize) -> KnxLData
+    requires { ⌜ 9 ≤ length (now rest) ⌝ }
+    ensures { λ r. ⌜ NumbersPromise (now (rest .entry)) «message_code» start end r ⌝ }
+{
+    let tpci = rest[7];
+    let second = rest[8];
+    let is_data = tpci / 64 < 2;
     KnxLData {
-        start: base + view.start,
-        end: base + view.end,
-        source: wire::word_at(rest, 2),
-        destination: wire::word_at(rest, 4),
-        apci_code,
-        message_code: wire::byte_at(data, 0),
-        control_1: wire::byte_at(rest, 0),
-        control_2: wire::byte_at(rest, 1),
-        npdu_length: wire::byte_at(rest, 6),
+        start,
+        end,
+        source: wire::word(rest[2], rest[3]),
+        destination: wire::word(rest[4], rest[5]),
+        apci_code: code_of(is_data, tpci, second),
+        message_code,
+        control_1: rest[0],
+        control_2: rest[1],
+        npdu_length: rest[6],
         tpci_kind: tpci / 64,
         tpci_sequence: sequence_of(tpci),
-        apci_named: flag(apci.is_named(apci_code)),
+        apci_named: named_of(is_data, tpci, second),
         six_bit: six_bit_of(is_data, second),
         number: 0,
     }
@@ -99,10 +111,20 @@ fn six_bit_of(is_data: bool, second: u8) -> u8
     0
 }
 
-fn flag(b: bool) -> u8
-    ensures { λ r. ⌜ r ≡ cond b 1 0 ⌝ }
+// All codes of a data packet but three have a name.
+fn named_of(is_data: bool, first: u8, second: u8) -> u8
+    ensures { λ r. ⌜ r ≡ namedIn «is_data» first second ⌝ }
 {
-    if b { 1 } else { 0 }
+    if !is_data {
+        return 0;
+    }
+    let code = code_of(true, first, second);
+    match code {
+        0x2C0 => 0,
+        0x380 => 0,
+        0x3C0 => 0,
+        _ => 1,
+    }
 }
 
 fn refused(why: Refusal) -> KnxLData
