@@ -43,7 +43,7 @@ struct Channel {
 
 /// The quoted answers, in the order of their numbers in a line.
 #[derive(Clone, Copy)]
-enum Said {
+pub enum Said {
     Nothing,
     Repeat,
     GiveUp,
@@ -55,10 +55,10 @@ enum Said {
 }
 
 /// What comes with number 0.
-struct Answer {
-    said: Said,
-    view: [usize; 2],
-    written: usize,
+pub struct Answer {
+    pub said: Said,
+    pub view: [usize; 2],
+    pub written: usize,
 }
 
 /// An answer with an empty view and nothing written.
@@ -83,7 +83,7 @@ impl Table {
         Err(NOT_OPEN)
     }
 
-    fn open(&mut self, id: u8) -> Result<Answer, u8> {
+    pub fn open(&mut self, id: u8) -> Result<Answer, u8> {
         if self.find(id).is_ok() {
             return Err(ALREADY_OPEN);
         }
@@ -98,7 +98,7 @@ impl Table {
         Ok(only(Said::Nothing))
     }
 
-    fn send(&mut self, id: u8, cemi: &[u8], output: &mut [u8]) -> Result<Answer, u8> {
+    pub fn send(&mut self, id: u8, cemi: &[u8], output: &mut [u8]) -> Result<Answer, u8> {
         let (place, channel) = self.find(id)?;
         if channel.wait != Wait::Idle {
             return Err(WAITS);
@@ -129,7 +129,7 @@ impl Table {
         }
     }
 
-    fn datagram(&mut self, input: &[u8], output: &mut [u8]) -> Result<Answer, u8> {
+    pub fn datagram(&mut self, input: &[u8], output: &mut [u8]) -> Result<Answer, u8> {
         let (service, body) = read_frame(input)?;
         match (service, body) {
             (REQUEST, [_, id, number, _, cemi @ ..]) => {

@@ -2,7 +2,7 @@
 // but the calls that are made here.
 
 #[repr(C)]
-#[derive(Debug, PartialEq)]
+#[derive(Clone, Copy, Debug, Default, PartialEq)]
 pub struct KnxFrame {
     pub start: usize,
     pub end: usize,
@@ -12,7 +12,7 @@ pub struct KnxFrame {
 }
 
 #[repr(C)]
-#[derive(Debug, PartialEq)]
+#[derive(Clone, Copy, Debug, Default, PartialEq)]
 pub struct KnxHpai {
     pub structure_length: u8,
     pub host_protocol: u8,
@@ -22,7 +22,7 @@ pub struct KnxHpai {
 }
 
 #[repr(C)]
-#[derive(Debug, PartialEq)]
+#[derive(Clone, Copy, Debug, Default, PartialEq)]
 pub struct KnxConnectResponse {
     pub channel: u8,
     pub status: u8,
@@ -35,7 +35,7 @@ pub struct KnxConnectResponse {
 }
 
 #[repr(C)]
-#[derive(Debug, PartialEq)]
+#[derive(Clone, Copy, Debug, Default, PartialEq)]
 pub struct KnxLData {
     pub start: usize,
     pub end: usize,
@@ -54,7 +54,7 @@ pub struct KnxLData {
 }
 
 #[repr(C)]
-#[derive(Debug, PartialEq)]
+#[derive(Clone, Copy, Debug, Default, PartialEq)]
 pub struct KnxWritten {
     pub count: usize,
     pub number: u8,
@@ -68,7 +68,7 @@ pub struct KnxEndpoint {
 }
 
 #[repr(C)]
-#[derive(Debug, PartialEq)]
+#[derive(Clone, Copy, Debug, Default, PartialEq)]
 pub struct KnxCalled {
     pub start: usize,
     pub end: usize,
@@ -77,7 +77,7 @@ pub struct KnxCalled {
     pub number: u8,
 }
 
-mod declared {
+pub mod declared {
     use super::*;
 
     #[link(name = "host", kind = "static")]

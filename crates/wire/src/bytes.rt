@@ -1,10 +1,8 @@
 // Bytes and big-endian numbers of a slice, and copying into a lent one: total, so that a caller asks no index.
 ghost use mathlib.Core.Path.{_≡_};
-ghost use Prim.Native.Nat.{_+_, _≤_};
-ghost use lib.ListN.{length};
-ghost use lib.Seq.{paste};
 ghost use Rattle.wire.specs.Layout.{WordPromise, HighPromise, LowPromise, ByteAtPromise, WordAtPromise, CopyPromise};
 ghost use Rattle.wire.specs.Written.{WritePromise};
+use crate::copying::copy_all;
 use crate::refusals::Refusal;
 use crate::refusals::Written;
 
@@ -67,15 +65,4 @@ pub fn write(bytes: &[u8], buf: &mut [u8]) -> Written
     }
     copy_all(bytes, buf, 0);
     Written::Bytes(bytes.len())
-}
-
-fn copy_all(src: &[u8], dst: &mut [u8], at: usize)
-    requires { ⌜ at + length (now src) ≤ length (now dst) ⌝ }
-    ensures { λ _. ⌜ now (dst .exit) ≡ paste (now (dst .entry)) at (now (src .entry)) (length (now (src .entry))) ⌝ }
-{
-    let mut i = 0;
-    while i < src.len() {
-        dst[at + i] = src[i];
-        i += 1;
-    }
 }

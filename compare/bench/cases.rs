@@ -1,0 +1,303 @@
+// The cases of the benchmark: what is called on both sides, and on which inputs.
+
+use crate::inputs::{self, lay_out, Inputs, CALLS};
+use crate::random::Rng;
+use original::border::declared::*;
+use original::border::{KnxCalled, KnxWritten};
+use original::tunnel_table::Table;
+use original::*;
+use std::fmt::Debug;
+use std::hint::black_box;
+
+/// What is measured; side 0 is the Rust, side 1 the port.
+pub struct Case {
+    pub name: String,
+    pub goal: &'static str,
+    /// The name of the function on both sides, behind rust_ and knx_.
+    pub function: &'static str,
+    pub work: Box<dyn Work>,
+}
+
+pub trait Work {
+    /// How many calls a batch makes.
+    fn calls(&self) -> usize;
+    /// What a batch needs before it, not measured.
+    fn reset(&mut self, _side: usize) {}
+    fn batch(&mut self, side: usize);
+    /// Stops where the two sides do not answer the same.
+    fn compare(&mut self);
+}
+
+fn case(
+    name: impl Into<String>,
+    goal: &'static str,
+    function: &'static str,
+    work: impl Work + 'static,
+) -> Case {
+    Case { name: name.into(), goal, function, work: Box::new(work) }
+}
+
+// Reading
+
+/// Of bytes and their length.
+type Read<R> = unsafe extern "C" fn(*const u8, usize) -> R;
+
+struct Reads<R> {
+    sides: [Read<R>; 2],
+    inputs: Inputs,
+}
+
+impl<R: Debug + PartialEq> Work for Reads<R> {
+    fn calls(&self) -> usize {
+        self.inputs.len()
+    }
+
+    fn batch(&mut self, side: usize) {
+        let read = black_box(self.sides[side]);
+        for input in &self.inputs {
+            black_box(unsafe { read(input.as_ptr(), input.len()) });
+        }
+    }
+
+    fn compare(&mut self) {
+        for input in &self.inputs {
+            let [a, b] = self.sides.map(|read| unsafe { read(input.as_ptr(), input.len()) });
+            assert_eq!(a, b, "{input:02x?}");
+        }
+    }
+}
+
+// Building
+
+/// Of channel, sequence, cEMI, buffer
+type Request = unsafe extern "C" fn(u8, u8, *const u8, usize, *mut u8, usize) -> KnxWritten;
+
+/// Of control 1, control 2, source, destination, TPCI byte, APCI code, six-bit number, data, buffer
+#[rustfmt::skip]
+type LDataBuild =
+    unsafe extern "C" fn(u8, u8, u16, u16, u8, u16, u8, *const u8, usize, *mut u8, usize) -> KnxWritten;
+
+const ROOM: usize = 600;
+
+struct Builds<B> {
+    sides: [B; 2],
+    bodies: Inputs,
+    out: [u8; ROOM],
+}
+
+trait Build: Copy {
+    fn build(self, body: &[u8], out: &mut [u8]) -> KnxWritten;
+}
+
+impl Build for Request {
+    fn build(self, cemi: &[u8], out: &mut [u8]) -> KnxWritten {
+        unsafe { self(7, 3, cemi.as_ptr(), cemi.len(), out.as_mut_ptr(), out.len()) }
+    }
+}
+
+impl Build for LDataBuild {
+    fn build(self, data: &[u8], out: &mut [u8]) -> KnxWritten {
+        let (data, length, out, room) = (data.as_ptr(), data.len(), out.as_mut_ptr(), out.len());
+        unsafe { self(0x94, 0xE0, 0x1105, 0x0803, 0, 0x080, 1, data, length, out, room) }
+    }
+}
+
+impl<B: Build> Work for Builds<B> {
+    fn calls(&self) -> usize {
+        self.bodies.len()
+    }
+
+    fn batch(&mut self, side: usize) {
+        let side = black_box(self.sides[side]);
+        for body in &self.bodies {
+            black_box(side.build(body, &mut self.out));
+        }
+    }
+
+    fn compare(&mut self) {
+        for body in &self.bodies {
+            let [a, b] = self.sides.map(|side| {
+                let mut out = [0xA5; ROOM];
+                (side.build(body, &mut out), out)
+            });
+            assert_eq!(a, b, "{body:02x?}");
+        }
+    }
+}
+
+// The tunnel table
+
+/// Of a table's memory and an id.
+type Open = unsafe extern "C" fn(*mut u8, usize, u8) -> KnxCalled;
+
+/// Of a table's memory, id, cEMI, output
+type Send = unsafe extern "C" fn(*mut u8, usize, u8, *const u8, usize, *mut u8, usize) -> KnxCalled;
+
+/// Of a table's memory, datagram, output
+type Datagram = unsafe extern "C" fn(*mut u8, usize, *const u8, usize, *mut u8, usize) -> KnxCalled;
+
+/// The memory of a table, on both sides.
+type Memory = [u8; 40];
+
+struct Datagrams {
+    /// Memories before a batch, and as they are; the calls go round them.
+    before: [Vec<Memory>; 2],
+    now: [Vec<Memory>; 2],
+    inputs: Inputs,
+    out: [u8; 64],
+}
+
+const DATAGRAM: [Datagram; 2] = [rust_table_datagram, knx_table_datagram];
+
+fn call(datagram: Datagram, memory: &mut Memory, input: &[u8], out: &mut [u8]) -> KnxCalled {
+    let (input, length, out, room) = (input.as_ptr(), input.len(), out.as_mut_ptr(), out.len());
+    unsafe { datagram(memory.as_mut_ptr(), memory.len(), input, length, out, room) }
+}
+
+impl Work for Datagrams {
+    fn calls(&self) -> usize {
+        self.inputs.len()
+    }
+
+    fn reset(&mut self, side: usize) {
+        self.now[side].copy_from_slice(&self.before[side]);
+    }
+
+    fn batch(&mut self, side: usize) {
+        let (datagram, memories) = (black_box(DATAGRAM[side]), &mut self.now[side]);
+        let mask = memories.len() - 1;
+        for (i, input) in self.inputs.iter().enumerate() {
+            black_box(call(datagram, &mut memories[i & mask], input, &mut self.out));
+        }
+    }
+
+    fn compare(&mut self) {
+        let mask = self.now[0].len() - 1;
+        for (i, input) in self.inputs.iter().enumerate() {
+            let [a, b] = [0, 1].map(|side| {
+                let (memory, mut out) = (&mut self.now[side][i & mask], [0xA5; 64]);
+                (call(DATAGRAM[side], memory, input, &mut out), out)
+            });
+            assert_eq!(a, b, "{input:02x?}");
+            assert_eq!(a.0.number, 0, "refused: {input:02x?}");
+        }
+    }
+}
+
+const IDS: [u8; 8] = [11, 7, 200, 42, 3, 99, 250, 128];
+
+/// A full table on each side, all channels idle.
+fn full_tables() -> [Memory; 2] {
+    const OPEN: [Open; 2] = [rust_table_open, knx_table_open];
+    let mut tables = [[0; 40]; 2];
+    unsafe { tables[0].as_mut_ptr().cast::<Table>().write(Table::default()) };
+    unsafe { knx_table_empty(tables[1].as_mut_ptr(), 40) };
+    for (table, open) in tables.iter_mut().zip(OPEN) {
+        for id in IDS {
+            let opened = unsafe { open(table.as_mut_ptr(), 40, id) };
+            assert_eq!(opened, KnxCalled::default());
+        }
+    }
+    tables
+}
+
+/// The same, all channels waiting for their first acknowledgement.
+fn waiting_tables() -> [Memory; 2] {
+    const SEND: [Send; 2] = [rust_table_send, knx_table_send];
+    let (mut tables, cemi, mut out) = (full_tables(), [0x29, 0], [0; 64]);
+    for (table, send) in tables.iter_mut().zip(SEND) {
+        for id in IDS {
+            let (table, out) = (table.as_mut_ptr(), out.as_mut_ptr());
+            let sent = unsafe { send(table, 40, id, cemi.as_ptr(), cemi.len(), out, 64) };
+            assert_eq!(sent, KnxCalled { written: 12, ..KnxCalled::default() });
+        }
+    }
+    tables
+}
+
+fn datagrams(tables: [Memory; 2], memories: usize, inputs: Inputs) -> Datagrams {
+    let before = tables.map(|table| vec![table; memories]);
+    Datagrams { now: before.clone(), before, inputs, out: [0; 64] }
+}
+
+// All of them
+
+pub fn all() -> Vec<Case> {
+    let mut cases = reading();
+    cases.extend(building());
+    cases.extend(tunnelling());
+    cases
+}
+
+fn reading() -> Vec<Case> {
+    let rng = &mut Rng::new(1);
+    let mut random = |one: fn(&mut Rng) -> Vec<u8>| lay_out(CALLS, |_| one(rng));
+    let frame = |inputs| Reads { sides: [rust_frame_parse, knx_frame_parse], inputs };
+    let good = frame(random(inputs::good_frame));
+    let mixed = frame(random(inputs::mixed_frame));
+    let refused = frame(random(inputs::refused_frame));
+    let hpai = Reads { sides: [rust_hpai_parse, knx_hpai_parse], inputs: random(inputs::hpai) };
+    let sides = [rust_connect_response, knx_connect_response];
+    let response = Reads { sides, inputs: random(inputs::connect_response) };
+    let cemi = Reads { sides: [rust_cemi_ldata, knx_cemi_ldata], inputs: random(inputs::cemi) };
+    vec![
+        case("frame parse, good", "0.7", "frame_parse", good),
+        case("frame parse, mixed", "0.7", "frame_parse", mixed),
+        case("frame parse, refused", "1.2 or 1 ns", "frame_parse", refused),
+        case("Hpai parse", "", "hpai_parse", hpai),
+        case("connect response", "", "connect_response", response),
+        case("cEMI to L_Data", "0.7", "cemi_ldata", cemi),
+    ]
+}
+
+fn building() -> Vec<Case> {
+    let rng = &mut Rng::new(2);
+    let mut bodies = |first, last| {
+        lay_out(CALLS, |_| {
+            let length = rng.between(first, last);
+            rng.bytes(length)
+        })
+    };
+    let mut cases = Vec::new();
+    for (first, last) in [(0, 14), (0, 60)] {
+        let sides: [LDataBuild; 2] = [rust_ldata_build, knx_ldata_build];
+        let work = Builds { sides, bodies: bodies(first, last), out: [0; ROOM] };
+        cases.push(case(format!("L_Data build, {first} to {last}"), "0.9", "ldata_build", work));
+    }
+    for (first, last) in [(0, 0), (14, 14), (54, 54), (0, 60), (250, 250), (500, 500)] {
+        let sides: [Request; 2] = [rust_tunneling_request, knx_tunneling_request];
+        let work = Builds { sides, bodies: bodies(first, last), out: [0; ROOM] };
+        let name = match last - first {
+            0 => format!("tunnel request, {last}"),
+            _ => format!("tunnel request, {first} to {last}"),
+        };
+        let goal = if last > 60 { "1.5" } else { "0.9" };
+        cases.push(case(name, goal, "tunneling_request", work));
+    }
+    cases
+}
+
+fn tunnelling() -> Vec<Case> {
+    let rng = &mut Rng::new(3);
+    let mut next = [0_u8; 8];
+    let order = inputs::places(rng);
+    let deliver = lay_out(CALLS, |i| {
+        let (id, number) = (IDS[order[i]], next[order[i]]);
+        next[order[i]] = number.wrapping_add(1);
+        inputs::tunnel_request(rng, id, number)
+    });
+    let duplicate = lay_out(CALLS, |_| {
+        let id = IDS[rng.below(8)];
+        inputs::tunnel_request(rng, id, 255)
+    });
+    // Each ends its channel's waiting: a table for each call, and few enough to stay near.
+    let calls = CALLS / 8;
+    let acknowledge = lay_out(calls, |_| inputs::acknowledgement(IDS[rng.below(8)], 0));
+    let (idle, waiting) = (full_tables(), waiting_tables());
+    let function = "table_datagram";
+    vec![
+        case("datagram, deliver", "60 ns", function, datagrams(idle, 1, deliver)),
+        case("datagram, duplicate", "60 ns", function, datagrams(idle, 1, duplicate)),
+        case("datagram, sent", "60 ns", function, datagrams(waiting, calls, acknowledge)),
+    ]
+}
