@@ -4,13 +4,14 @@ use mathlib.Core.Path.{_≡_}
 use mathlib.Core.Bool.{Bool, cond}
 use mathlib.Core.List.{List, [], _∷_, _++_}
 use lib.ListN.{getD}
+use lib.Dec.{eqb, ltb}
 use Rattle.wire.specs.Told.{Told, Check, judged, refused}
 use Rattle.wire.specs.Layout.{get}
 use Rattle.wire.specs.declared.refusals.Refusal.{Refusal}
 use Rattle.constants.specs.MessageCodes.{messageOf}
 use Rattle.pci.specs.Application as Application
 use Rattle.ldata.specs.Count.{startOf, crateCount}
-use Rattle.ldata.specs.LData.{tpciIn, lengthIn, dataByte, apciIn, held, byteChecks}
+use Rattle.ldata.specs.LData.{tpciIn, lengthIn, dataByte, held, byteChecks}
 use Rattle.ldata.specs.LData as LData
 use Rattle.ldata.specs.declared.fields.LDataFields.{LDataFields}
 use Rattle.ldata.specs.declared.fields.LDataAnswer.the-variants.{Frame}
@@ -46,29 +47,26 @@ dataIn rest = dataByte (tpciIn (get LData.fields 0 rest))
 abbrev pub codeOfBytes : Bool → ℕ → ℕ → ℕ
 codeOfBytes d first second = cond d (Application.codeIn first second) 0
 
+-- whether the service of APCI's two bytes has a name; a control packet has none
+abbrev pub namedIn : Bool → ℕ → ℕ → ℕ
+namedIn d first second = cond (Application.isUnknown (LData.apciIn d first second)) 0 1
+
+-- the same by the row of the code, the sixteen in their order: all but 0x2C0, 0x380 and 0x3C0
+abbrev pub namedRow : ℕ → ℕ
+namedRow row = cond (eqb row 11) 0 (cond (ltb row 14) 1 0)
+
 -- "The six-bit number is read from the APCI byte"; a control packet has none
 abbrev pub sixBitIn : Bool → ℕ → ℕ
 sixBitIn d second = cond d (second % 64) 0
 
--- whether the APCI of two bytes is named, as the record tells it
-abbrev pub namedIn : Bool → ℕ → ℕ → ℕ
-namedIn d first second = getD (Application.values (apciIn d first second)) 0 0
-
--- the numbers of a cEMI code, of the bytes behind the additional information, and of a view
-abbrev pub numbersIn : List ℕ → ℕ → ℕ → ℕ → Told
-numbersIn rest code start end = record {
-  number = 0;
-  values = code ∷ held rest ++ sixBitIn (dataIn rest) (getD rest 8 0) ∷ [];
-  start = start;
-  end = end;
-}
-
 -- the view of the data is that of L_Data, moved by where L_Data starts
 abbrev pub ldataIn : List ℕ → Told
-ldataIn s =
-    numbersIn (serviceInfo s) (codeIn s)
-    (2 + infoLength s + startOf (dataIn (serviceInfo s)))
-    (2 + infoLength s + crateCount .endOf (lengthIn (get LData.fields 0 (serviceInfo s))))
+ldataIn s = record {
+  number = 0;
+  values = codeIn s ∷ held (serviceInfo s) ++ sixBitIn (dataIn (serviceInfo s)) (getD (serviceInfo s) 8 0) ∷ [];
+  start = 2 + infoLength s + startOf (dataIn (serviceInfo s));
+  end = 2 + infoLength s + crateCount .endOf (lengthIn (get LData.fields 0 (serviceInfo s)));
+}
 
 abbrev pub CemiLDataPromise : List ℕ → KnxLData → Type 0
 CemiLDataPromise s r = told r ≡ judged (checks s) (ldataIn s)
@@ -83,6 +81,3 @@ Accepted s f = LData.ParsePromise (serviceInfo s) (Frame f)
 
 abbrev pub ReadPromise : List ℕ → KnxLData → Type 0
 ReadPromise s r = told r ≡ ldataIn s
-
-abbrev pub NumbersPromise : List ℕ → ℕ → ℕ → ℕ → KnxLData → Type 0
-NumbersPromise rest code start end r = told r ≡ numbersIn rest code start end

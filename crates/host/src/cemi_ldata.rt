@@ -1,8 +1,7 @@
 // From cEMI to L_Data in one call.
 ghost use mathlib.Core.Path.{_≡_};
-ghost use Prim.Native.Nat.{_≤_};
-ghost use lib.ListN.{length};
-ghost use Rattle.host.specs.CemiLData.{CemiLDataPromise, RefusedPromise, Accepted, ReadPromise, NumbersPromise, codeOfBytes, namedIn, sixBitIn};
+ghost use Rattle.host.specs.CemiLData.{CemiLDataPromise, RefusedPromise, Accepted, ReadPromise, codeOfBytes, namedIn, namedRow, sixBitIn};
+ghost use Rattle.ldata.specs.Count.{startOf};
 ghost use Rattle.pci.specs.Transport.{sequenceOf};
 use cemi::CEMIAnswer;
 use cemi::CEMIFrame;
@@ -42,46 +41,42 @@ pub extern "C" fn knx_cemi_ldata(data: &[u8]) -> KnxLData
     }
 }
 
-// L_Data is known to be accepted: where it starts, and where its data stands.
+// TPCI and APCI are read off their bytes once more, which costs less than by way of their names.
 fn read(data: &[u8], fields: LDataFields) -> KnxLData
     requires { ⌜ Accepted (now «data») fields ⌝ }
     ensures { λ r. ⌜ ReadPromise (now («data» .entry)) r ⌝ }
 {
     let base = 2 + wire::byte_at(data, 1) as usize;
     let rest = wire::part(data, base, data.len());
-    let view = fields.data(rest);
-    numbers(
-        rest,
-        wire::byte_at(data, 0),
-        base + view.start,
-        base + view.end,
-    )
-}
-
-// The numbers are read off the bytes, which costs less than by way of their names.
-fn numbers(rest: &[u8], message_code: u8, start: usize, end: usize) -> KnxLData
-    requires { ⌜ 9 ≤ length (now rest) ⌝ }
-    ensures { λ r. ⌜ NumbersPromise (now (rest .entry)) «message_code» start end r ⌝ }
-{
-    let tpci = rest[7];
-    let second = rest[8];
+    let tpci = wire::byte_at(rest, 7);
+    let second = wire::byte_at(rest, 8);
     let is_data = tpci / 64 < 2;
+    let ctrl1 = fields.ctrl1;
+    let ctrl2 = fields.ctrl2;
+    let source = fields.source;
+    let stop = 7 + fields.npdu_length as usize;
     KnxLData {
-        start,
-        end,
-        source: wire::word(rest[2], rest[3]),
-        destination: wire::word(rest[4], rest[5]),
+        start: base + start_of(is_data),
+        end: base + stop,
+        source: source.to_u16(),
+        destination: fields.destination_raw,
         apci_code: code_of(is_data, tpci, second),
-        message_code,
-        control_1: rest[0],
-        control_2: rest[1],
-        npdu_length: rest[6],
+        message_code: wire::byte_at(data, 0),
+        control_1: ctrl1.to_u8(),
+        control_2: ctrl2.to_u8(),
+        npdu_length: fields.npdu_length,
         tpci_kind: tpci / 64,
         tpci_sequence: sequence_of(tpci),
-        apci_named: named_of(is_data, tpci, second),
+        apci_named: named(is_data, tpci, second),
         six_bit: six_bit_of(is_data, second),
         number: 0,
     }
+}
+
+fn start_of(is_data: bool) -> usize
+    ensures { λ r. ⌜ r ≡ startOf «is_data» ⌝ }
+{
+    if is_data { 9 } else { 8 }
 }
 
 fn code_of(is_data: bool, first: u8, second: u8) -> u16
@@ -111,20 +106,26 @@ fn six_bit_of(is_data: bool, second: u8) -> u8
     0
 }
 
-// All codes of a data packet but three have a name.
-fn named_of(is_data: bool, first: u8, second: u8) -> u8
+fn named(is_data: bool, first: u8, second: u8) -> u8
     ensures { λ r. ⌜ r ≡ namedIn «is_data» first second ⌝ }
 {
-    if !is_data {
+    if is_data {
+        return row_named(first % 4 * 4 + second / 64);
+    }
+    0
+}
+
+// Of the sixteen codes three have no name.
+fn row_named(row: u8) -> u8
+    ensures { λ r. ⌜ r ≡ namedRow row ⌝ }
+{
+    if row == 11 {
         return 0;
     }
-    let code = code_of(true, first, second);
-    match code {
-        0x2C0 => 0,
-        0x380 => 0,
-        0x3C0 => 0,
-        _ => 1,
+    if row < 14 {
+        return 1;
     }
+    0
 }
 
 fn refused(why: Refusal) -> KnxLData

@@ -7,7 +7,7 @@ use mathlib.Core.List.{List, [], _∷_, _++_}
 use lib.ListN.{length, getD, take, drop}
 use lib.Dec.{ltb}
 use borrow.Author.Tests.{ltb-false}
-use Rattle.wire.specs.Told.{Told, done, Check, _⇒_, verdict}
+use Rattle.wire.specs.Told.{Told, done, viewed, Check, _⇒_, verdict, judged}
 use Rattle.wire.specs.ToldLaws.{let-pass, let-refuse, holds, was-accepted, let-through, same, one-to-one, answerOf, back-refused}
 use Rattle.wire.specs.Layout.{put}
 use Rattle.wire.specs.LayoutLaws.{Bytes, put-get}
@@ -21,9 +21,10 @@ use Rattle.pci.specs.Transport as Transport
 use Rattle.pci.specs.Application as Application
 use Rattle.pci.specs.PciLaws.{tpciOf, tpci-back, behind-tpci, apciFrom, apci-back, no-name}
 use Rattle.pci.specs.declared.transport.Tpci.{Tpci}
+use Rattle.pci.specs.declared.transport.Tpci.the-variants.{UnnumberedData, NumberedData, UnnumberedControl, NumberedControl}
 use Rattle.pci.specs.declared.application.Apci.{Apci}
-use Rattle.ldata.specs.Count.{Count, crateCount}
-use Rattle.ldata.specs.LData.{fields, dataByte, apciIn, values, held, checks, byteChecks, told, parseBy01, ParsePromise, DataPromise, toldGroup, toldIndividual, DestinationGroupPromise, DestinationIndividualPromise, IsServicePromise}
+use Rattle.ldata.specs.Count.{Count, startOf, crateCount}
+use Rattle.ldata.specs.LData.{fields, dataByte, apciIn, values, held, checks, byteChecks, told, parseBy01, dataBy01, ParsePromise, DataPromise, toldGroup, toldIndividual, DestinationGroupPromise, DestinationIndividualPromise, IsServicePromise}
 use Rattle.ldata.specs.declared.fields.LDataFields.{LDataFields}
 use Rattle.ldata.specs.declared.fields.LDataAnswer.{LDataAnswer}
 use Rattle.ldata.specs.declared.fields.LDataAnswer.the-variants.{Frame, Refused}
@@ -48,6 +49,13 @@ module _ (C : Count) (s : List ℕ) (d : Bool) (kind : d ≡ dataByte (getD s 7 
   pub fell : (e : Refusal) → verdict (checks C (length s) d (getD s 6 0)) ≡ Refuse e → told (Refused e) ≡ parseBy01 C s
   fell e q = sym (let-refuse (byteChecks C s) (done (held s)) e (sym over ∙ q))
 
+-- the kind is the first of a TPCI's values
+kind-first : (t : Tpci) (l : List ℕ) → getD (Transport.values t ++ l) 0 0 ≡ getD (Transport.values t) 0 0
+kind-first UnnumberedData l = refl
+kind-first (NumberedData n) l = refl
+kind-first UnnumberedControl l = refl
+kind-first (NumberedControl n) l = refl
+
 -- ---- what is accepted
 
 -- what the checks let through: enough bytes, the end among them, and an allowed L
@@ -71,6 +79,15 @@ module _ (C : Count) (s : List ℕ) (f : LDataFields) (parsed : told (Frame f) �
   -- the values of the record are those that stand in the bytes
   pub read : values f ≡ held s
   read = ap (λ (t : Told). t .values) (let-through (byteChecks C s) (done (held s)) (told (Frame f)) refl parsed)
+
+  -- its data is where its bytes say
+  pub kind-read : isData (f .tpci) ≡ dataByte (getD s 7 0)
+  kind-read = ap (λ (k : ℕ). ltb k 2) (sym (kind-first (f .tpci) (Application.values (f .apci))) ∙ ap (λ (vs : List ℕ). getD vs 5 0) read)
+
+  pub data-read : dataBy01 C f s ≡ judged (byteChecks C s) (viewed (startOf (dataByte (getD s 7 0))) (C .endOf (getD s 6 0)))
+  data-read =
+      let of : Bool → ℕ → Told = λ d l. judged (checks C (length s) d l) (viewed (startOf d) (C .endOf l)) in
+      ap (λ (d : Bool). of d (f .«npdu_length»)) kind-read ∙ ap (of (dataByte (getD s 7 0))) (ap (λ (vs : List ℕ). getD vs 4 0) read)
 
   pub stands : Stands C (length s) (dataByte (getD s 7 0)) (getD s 6 0)
   stands = accepted C (length s) (dataByte (getD s 7 0)) (getD s 6 0) (was-accepted (byteChecks C s) (done (held s)) (told (Frame f)) refl parsed)

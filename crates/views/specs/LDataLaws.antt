@@ -1,20 +1,14 @@
 -- The data by the fields that were parsed is the frame's data, and so is that of what `parse` holds. Assumes nothing.
 use Prim.Native.Nat.{ℕ}
 use mathlib.Core.Path.{_≡_, refl, sym, ap, _∙_}
-use mathlib.Core.Bool.{Bool}
-use mathlib.Core.List.{List, [], _++_}
-use lib.ListN.{length, getD}
-use lib.Dec.{ltb}
+use mathlib.Core.List.{List, []}
 use denote.Ref.{now}
-use Rattle.wire.specs.Told.{Told, done, viewed, judged}
-use Rattle.wire.specs.ToldLaws.{same, let-refuse, let-through, was-refused}
+use Rattle.wire.specs.Told.{done, viewed}
+use Rattle.wire.specs.ToldLaws.{same, let-refuse, was-refused}
 use Rattle.wire.specs.Layout.{get}
 use Rattle.wire.specs.Parts.{shown}
 use Rattle.wire.specs.declared.refusals.Refusal.{Refusal}
-use Rattle.pci.specs.Transport.{isData}
 use Rattle.pci.specs.Transport as Transport
-use Rattle.pci.specs.declared.transport.Tpci.{Tpci}
-use Rattle.pci.specs.declared.transport.Tpci.the-variants.{UnnumberedData, NumberedData, UnnumberedControl, NumberedControl}
 use Rattle.ldata.specs.Count.{startOf, crateCount}
 use Rattle.ldata.specs.LData.{fields, lengthIn, tpciIn, dataByte}
 use Rattle.ldata.specs.LData as LData
@@ -25,21 +19,8 @@ use Rattle.views.specs.Kept.{empty-part}
 use Rattle.views.specs.LData.{dataIn, ParsePromise, DataPromise, DataInPromise}
 use Rattle.views.specs.declared.l_data.LDataFrame.{LDataFrame}
 
--- the kind is the first of a TPCI's values
-kind-first : (t : Tpci) (l : List ℕ) → getD (Transport.values t ++ l) 0 0 ≡ getD (Transport.values t) 0 0
-kind-first UnnumberedData l = refl
-kind-first (NumberedData n) l = refl
-kind-first UnnumberedControl l = refl
-kind-first (NumberedControl n) l = refl
-
 pub fields-data : (s : List ℕ) (f : LDataFields) → LData.ParsePromise s (Frame f) → shown s (LData.dataBy01 crateCount f s) ≡ dataIn s
-fields-data s f p =
-    let same = let-through (LData.byteChecks crateCount s) (done (LData.held s)) (LData.told (Frame f)) refl p in
-    let kind : isData (f .tpci) ≡ dataByte (tpciIn (get fields 0 s)) =
-    ap (λ (k : ℕ). ltb k 2) (sym (kind-first (f .tpci) _) ∙ ap (λ (u : Told). getD (u .values) 5 0) same) in
-    let size : f .«npdu_length» ≡ lengthIn (get fields 0 s) = ap (λ (u : Told). getD (u .values) 4 0) same in
-    ap (λ (d : Bool). shown s (judged (LData.checks crateCount (length s) d (f .«npdu_length»)) (viewed (startOf d) (crateCount .endOf (f .«npdu_length»))))) kind
-    ∙ ap (λ (l : ℕ). shown s (judged (LData.checks crateCount (length s) (dataByte (tpciIn (get fields 0 s))) l) (viewed (startOf (dataByte (tpciIn (get fields 0 s)))) (crateCount .endOf l)))) size
+fields-data s f p = ap (shown s) (FieldLaws.data-read crateCount s f p)
 
 -- a refused frame has none
 pub refused-data : (s : List ℕ) (e : Refusal) → LData.ParsePromise s (Refused e) → dataIn s ≡ []
