@@ -8,7 +8,6 @@ use Rattle.wire.specs.ToldLaws.{same, let-refuse, was-refused}
 use Rattle.wire.specs.Layout.{get}
 use Rattle.wire.specs.Parts.{shown}
 use Rattle.wire.specs.declared.refusals.Refusal.{Refusal}
-use Rattle.pci.specs.Transport as Transport
 use Rattle.ldata.specs.Count.{startOf, crateCount}
 use Rattle.ldata.specs.LData.{fields, lengthIn, tpciIn, dataByte}
 use Rattle.ldata.specs.LData as LData
