@@ -8,7 +8,7 @@ use lib.Dec.{eqb, ltb}
 use lib.ListN.{length, take, drop, set, length-append, take-append-drop}
 use lib.Seq.{append-snoc, set-split, drop-at, length-take-le, take-set-le}
 use borrow.Author.Tests.{ne-eqb, eqb-true, eqb-false, lt-ltb, le-ltb, ltb-true, ltb-false}
-use Rattle.kip.specs.Digits.{digitsOf, decimal, hexDigit, readFrom, tens, hexValue}
+use Rattle.kip.specs.Digits.{digitsOf, decimalIn, decimal, hexDigit, readFrom, tens, hexValue}
 
 -- ---- how many there are
 
@@ -29,13 +29,78 @@ one-more (suc k) n h some =
     let q : suc k - 1 ≡ k = omega arith in
     rw (q, ne-eqb n 0 some) (length-append (digitsOf k (n / 10)) ((48 + n % 10) ∷ []))
 
+-- of a number that is not 0
+some-digits : (k n : ℕ) → (n ≡ 0 → ⊥) → length (decimalIn k n) ≡ length (digitsOf k n)
+some-digits k n some = rw (ne-eqb n 0 some)
+
 -- the last digit, and those before it
-pub last-place : (n : ℕ) → length (decimal n) ≡ length (digitsOf 19 (n / 10)) + 1
-last-place n = go (eqb n 0) refl
+last-place : (k n : ℕ) → 1 ≤ k → length (decimalIn k n) ≡ length (digitsOf (k - 1) (n / 10)) + 1
+last-place k n h = go (eqb n 0) refl
   where
-    go : (b : Bool) → eqb n 0 ≡ b → length (cond b (48 ∷ []) (digitsOf 20 n)) ≡ length (digitsOf 19 (n / 10)) + 1
-    go true e = let z : n / 10 ≡ 0 = omega (arith, eqb-true n 0 e) in ap (λ (k : ℕ). k + 1) (sym (ap (λ (m : ℕ). length (digitsOf 19 m)) z ∙ none-left 19))
-    go false e = one-more 20 n (omega arith) (eqb-false n 0 e)
+    go : (b : Bool) → eqb n 0 ≡ b → length (cond b (48 ∷ []) (digitsOf k n)) ≡ length (digitsOf (k - 1) (n / 10)) + 1
+    go true e = let z : n / 10 ≡ 0 = omega (arith, eqb-true n 0 e) in ap (λ (k : ℕ). k + 1) (sym (ap (λ (m : ℕ). length (digitsOf (k - 1) m)) z ∙ none-left (k - 1)))
+    go false e = one-more k n h (eqb-false n 0 e)
+
+-- the last two, where there are two
+two-places : (k n : ℕ) → 2 ≤ k → 10 ≤ n → length (decimalIn k n) ≡ length (digitsOf (k - 2) (n / 100)) + 2
+two-places k n h some =
+    let q : k - 1 - 1 ≡ k - 2 = omega arith in
+    let d : n / 10 / 10 ≡ n / 100 = omega arith in
+    let x = last-place k n (omega arith) in
+    let y = one-more (k - 1) (n / 10) (omega arith) (λ z. omega arith) in
+    let z = ap (λ (j : ℕ). length (digitsOf j (n / 10 / 10))) q ∙ ap (λ (m : ℕ). length (digitsOf (k - 2) m)) d in
+    omega (arith, x, y, z)
+
+three-places : (k n : ℕ) → 3 ≤ k → 100 ≤ n → length (decimalIn k n) ≡ length (digitsOf (k - 3) (n / 1000)) + 3
+three-places k n h some =
+    let q : k - 2 - 1 ≡ k - 3 = omega arith in
+    let d : n / 100 / 10 ≡ n / 1000 = omega arith in
+    let x = two-places k n (omega arith) (omega arith) in
+    let y = one-more (k - 2) (n / 100) (omega arith) (λ z. omega arith) in
+    let z = ap (λ (j : ℕ). length (digitsOf j (n / 100 / 10))) q ∙ ap (λ (m : ℕ). length (digitsOf (k - 3) m)) d in
+    omega (arith, x, y, z)
+
+four-places : (k n : ℕ) → 4 ≤ k → 1000 ≤ n → length (decimalIn k n) ≡ length (digitsOf (k - 4) (n / 10000)) + 4
+four-places k n h some =
+    let q : k - 3 - 1 ≡ k - 4 = omega arith in
+    let d : n / 1000 / 10 ≡ n / 10000 = omega arith in
+    let x = three-places k n (omega arith) (omega arith) in
+    let y = one-more (k - 3) (n / 1000) (omega arith) (λ z. omega arith) in
+    let z = ap (λ (j : ℕ). length (digitsOf j (n / 1000 / 10))) q ∙ ap (λ (m : ℕ). length (digitsOf (k - 4) m)) d in
+    omega (arith, x, y, z)
+
+-- ---- counted by fours
+
+pub places-turn : (k n : ℕ) → 4 ≤ k → 10000 ≤ n → length (decimalIn k n) ≡ length (decimalIn (k - 4) (n / 10000)) + 4
+places-turn k n h some = omega (arith, four-places k n h (omega arith), some-digits (k - 4) (n / 10000) (λ z. omega arith))
+
+-- nothing is left above the places that were counted
+none-above : (k m : ℕ) → m ≡ 0 → length (digitsOf k m) ≡ 0
+none-above k m z = ap (λ (x : ℕ). length (digitsOf k x)) z ∙ none-left k
+
+pub one-place : (k n : ℕ) → 1 ≤ k → n < 10 → length (decimalIn k n) ≡ 1
+one-place k n h l = omega (arith, last-place k n h, none-above (k - 1) (n / 10) (omega arith))
+
+pub two-exactly : (k n : ℕ) → 2 ≤ k → 10 ≤ n → n < 100 → length (decimalIn k n) ≡ 2
+two-exactly k n h a l = omega (arith, two-places k n h a, none-above (k - 2) (n / 100) (omega arith))
+
+pub three-exactly : (k n : ℕ) → 3 ≤ k → 100 ≤ n → n < 1000 → length (decimalIn k n) ≡ 3
+three-exactly k n h a l = omega (arith, three-places k n h a, none-above (k - 3) (n / 1000) (omega arith))
+
+pub four-exactly : (n : ℕ) → 1000 ≤ n → length (decimalIn 4 n) ≡ 4
+four-exactly n a = omega (arith, four-places 4 n (omega arith) a, no-place (n / 10000))
+
+-- below 10,000 four places are enough
+pub enough-places : (k n : ℕ) → 4 ≤ k → n < 10000 → length (decimalIn k n) ≡ length (decimalIn 4 n)
+enough-places k n h l = go (ltb n 10) (ltb n 100) (ltb n 1000) refl refl refl
+  where
+    go : (a b c : Bool) → ltb n 10 ≡ a → ltb n 100 ≡ b → ltb n 1000 ≡ c → length (decimalIn k n) ≡ length (decimalIn 4 n)
+    go true b c e f g = let x = ltb-true n 10 e in omega (arith, one-place k n (omega arith) x, one-place 4 n (omega arith) x)
+    go false true c e f g = let x = ltb-false n 10 e in let y = ltb-true n 100 f in omega (arith, two-exactly k n (omega arith) x y, two-exactly 4 n (omega arith) x y)
+    go false false true e f g = let x = ltb-false n 100 f in let y = ltb-true n 1000 g in omega (arith, three-exactly k n (omega arith) x y, three-exactly 4 n (omega arith) x y)
+    go false false false e f g =
+        let x = ltb-false n 1000 g in
+        omega (arith, four-places k n h x, none-above (k - 4) (n / 10000) (omega arith), four-exactly n x)
 
 -- a number of 64 bits has at most twenty digits, as is its definition's bound
 digits-most : (k n : ℕ) → length (digitsOf k n) ≤ k
@@ -47,8 +112,11 @@ digits-most (suc k) n = go (eqb n 0) (digits-most k (n / 10))
     go true ih = omega arith
     go false ih = omega (arith, length-append (digitsOf k (n / 10)) ((48 + n % 10) ∷ []))
 
+pub few-most : (n : ℕ) → length (decimalIn 4 n) ≤ 4
+few-most n = omega (arith, last-place 4 n (omega arith), digits-most 3 (n / 10))
+
 pub places-most : (n : ℕ) → length (decimal n) ≤ 20
-places-most n = omega (arith, last-place n, digits-most 19 (n / 10))
+places-most n = omega (arith, last-place 20 n (omega arith), digits-most 19 (n / 10))
 
 -- ---- storing them, the last one first
 

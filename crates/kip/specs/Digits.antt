@@ -11,9 +11,13 @@ unfoldable pub digitsOf : ℕ → ℕ → List ℕ
 digitsOf zero n = []
 digitsOf (suc k) n = cond (eqb n 0) [] (digitsOf k (n / 10) ++ (48 + n % 10) ∷ [])
 
--- a number of 64 bits has at most twenty digits; 0 has one
+-- in at most k places; 0 has one digit
+abbrev pub decimalIn : ℕ → ℕ → List ℕ
+decimalIn k n = cond (eqb n 0) (48 ∷ []) (digitsOf k n)
+
+-- a number of 64 bits has at most twenty digits
 abbrev pub decimal : ℕ → List ℕ
-decimal n = cond (eqb n 0) (48 ∷ []) (digitsOf 20 n)
+decimal n = decimalIn 20 n
 
 abbrev pub PlacesPromise : ℕ → ℕ → Type 0
 PlacesPromise n r = r ≡ length (decimal n)

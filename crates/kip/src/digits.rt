@@ -3,22 +3,38 @@ ghost use mathlib.Core.Path.{_≡_};
 ghost use Prim.Native.Nat.{_+_, _≤_};
 ghost use lib.ListN.{length};
 ghost use Rattle.wire.specs.Layout.{CopyPromise};
-ghost use Rattle.kip.specs.Digits.{decimal, PlacesPromise, HexDigitPromise, HexPromise};
+ghost use Rattle.kip.specs.Digits.{decimalIn, decimal, PlacesPromise, HexDigitPromise, HexPromise};
 
-// How many decimal digits a number has: the length of a line is known before a byte of it is written.
+// How many decimal digits a number has: the length of a line is known before a byte of it is written. They are counted by fours, which costs a quarter of the divisions.
 pub(crate) fn places(n: u64) -> usize
     ensures { λ r. ⌜ PlacesPromise n r ⌝ }
 {
-    let mut count = 1;
-    let mut rest = n / 10;
-    while rest > 0 {
-        if count == 20 {
+    let mut count = 0;
+    let mut rest = n;
+    while rest > 9999 {
+        if count == 16 {
             break;
         }
-        rest /= 10;
-        count += 1;
+        rest /= 10000;
+        count += 4;
     }
-    count
+    count + few_places(rest)
+}
+
+// Of the four last places those that are not leading zeros; 0 has one digit.
+fn few_places(n: u64) -> usize
+    ensures { λ r. ⌜ r ≡ length (decimalIn 4 n) ⌝ }
+{
+    if n < 10 {
+        return 1;
+    }
+    if n < 100 {
+        return 2;
+    }
+    if n < 1000 {
+        return 3;
+    }
+    4
 }
 
 // Stores the decimal digits where they stand in the line, the last one first.

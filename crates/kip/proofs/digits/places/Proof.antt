@@ -1,49 +1,70 @@
--- The invariant: the digits that are counted, and those that what is left has. Assumes nothing.
-use Prim.Native.Nat.{ℕ, _+_, _-_, _/_, _≤_}
+-- The invariant: the digits that are counted, by fours, and those that what is left has. Assumes nothing.
+use Prim.Native.Nat.{ℕ, _+_, _-_, _/_, _%_, _≤_}
 use native.Mathlib.Omega.{arith}
 use mathlib.Core.Path.{_≡_, ap, _∙_}
+use mathlib.Core.Logic.{⊎-elim}
 use lib.ListN.{length}
-use Rattle.kip.specs.Digits.{digitsOf, decimal}
-use Rattle.kip.specs.DigitLaws.{none-left, no-place, one-more, last-place}
+use Rattle.kip.specs.Digits.{decimalIn, decimal}
+use Rattle.kip.specs.DigitLaws.{places-turn, enough-places, few-most}
 use borrow.Author.Needs.{needs}
 use Rattle.kip.proofs.digits.places.Statement.{statement}
 use Rattle.kip.proofs.digits.places.Tie as tie
 
 abbrev Inv-loop : tie.InvT-loop
-Inv-loop n count₀ rest₀ count rest = (count ≤ 20) × (length (decimal n) ≡ count + length (digitsOf (20 - count) rest))
+Inv-loop n count₀ rest₀ count rest = (count ≤ 16) × (count % 4 ≡ 0) × (length (decimal n) ≡ count + length (decimalIn (20 - count) rest))
 
 abbrev μ-loop : tie.MeasureT-loop
 μ-loop n count₀ rest₀ count rest = 20 - count
 
 loop-holds : tie.Need-loop-holds Inv-loop μ-loop
-loop-holds c = (omega arith, omega (arith, last-place (c .args .n)))
+loop-holds c = (omega arith, omega arith, omega arith)
 
 add-count : tie.Need-add-count Inv-loop μ-loop
-add-count c = search needs
+add-count c =
+    let o = c .before .before .loop in
+    omega (arith, o .inv .0)
 
 loop-less : tie.Need-loop-less Inv-loop μ-loop
-loop-less c = search needs
+loop-less c =
+    let o = c .before .before .loop in
+    omega (arith, o .inv .0, o .inv .1)
 
 loop-again : tie.Need-loop-again Inv-loop μ-loop
 loop-again c =
     let o = c .before .before .loop in
-    let q : 20 - o .count - 1 ≡ 20 - (o .count + 1) = omega arith in
-    let more = one-more (20 - o .count) (o .rest) (omega (arith, o .inv .0)) (λ z. omega arith) ∙ ap (λ (k : ℕ). length (digitsOf k (o .rest / 10)) + 1) q in
-    (omega (arith, o .inv .0), omega (arith, o .inv .1, more))
+    let q : 20 - o .count - 4 ≡ 20 - (o .count + 4) = omega arith in
+    let turn = places-turn (20 - o .count) (o .rest) (omega (arith, o .inv .0, o .inv .1)) (omega arith) ∙ ap (λ (k : ℕ). length (decimalIn k (o .rest / 10000)) + 4) q in
+    (omega (arith, o .inv .0, o .inv .1), omega (arith, o .inv .1), omega (arith, o .inv .2, turn))
+
+few-places-requires : tie.Need-few-places-requires Inv-loop μ-loop
+few-places-requires c κs = search needs
+
+add-result : tie.Need-add-result Inv-loop μ-loop
+add-result c =
+    let o = c .before .before .loop in
+    omega (arith, o .inv .0, c .few-places .ensures, few-most (o .rest))
 
 returns : tie.Need-returns Inv-loop μ-loop
 returns c =
-    let o = c .before .loop in
-    let z : o .rest ≡ 0 = omega arith in
-    omega (arith, o .inv .1, ap (λ (m : ℕ). length (digitsOf (20 - o .count) m)) z, none-left (20 - o .count))
-
-returns-2 : tie.Need-returns-2 Inv-loop μ-loop
-returns-2 c =
     let o = c .before .before .loop in
-    let z : 20 - o .count ≡ 0 = omega arith in
-    omega (arith, o .inv .1, ap (λ (k : ℕ). length (digitsOf k (o .rest))) z, no-place (o .rest))
+    let few = c .few-places .ensures in
+    ⊎-elim
+    (λ w. omega (arith, o .inv .2, few, enough-places (20 - o .count) (o .rest) (omega (arith, o .inv .0)) (omega (arith, w .left))))
+    (λ w.
+    let q : 20 - o .count ≡ 4 = omega (arith, w .1 .taken) in
+    omega (arith, o .inv .2, few, ap (λ (k : ℕ). length (decimalIn k (o .rest))) q))
+    (c .before .loop-test .came)
 
 pub places-spec : {M : Type 1} → statement M
 places-spec =
     tie.close
-    (tie.spec Inv-loop μ-loop loop-holds add-count loop-less loop-again returns returns-2)
+    (tie.spec
+    Inv-loop
+    μ-loop
+    loop-holds
+    add-count
+    loop-less
+    loop-again
+    few-places-requires
+    add-result
+    returns)
