@@ -35,6 +35,20 @@ use Rattle.ldata.specs.declared.fields.LDataFields.{LDataFields}
 use Rattle.ldata.specs.declared.fields.LDataAnswer.{LDataAnswer}
 use Rattle.ldata.specs.declared.fields.LDataAnswer.the-variants as L
 use Rattle.ldata.specs.declared.builder.LDataBuilder.{LDataBuilder}
+use Rattle.wire.specs.Parts.{shown}
+use Rattle.wire.specs.declared.parts.View.{View}
+use Rattle.pci.specs.Transport.{isData}
+use Rattle.views.specs.KnxnetIp as KnxnetIp
+use Rattle.views.specs.KnxnetIpLaws as KnxnetIpLaws
+use Rattle.views.specs.LData as LDataView
+use Rattle.views.specs.LDataLaws as LDataViewLaws
+use Rattle.views.specs.declared.knxnet_ip.KnxnetIpFrame.{KnxnetIpFrame}
+use Rattle.host.specs.Reading as Reading
+use Rattle.host.specs.ReadingLaws as ReadingLaws
+use Rattle.host.specs.CemiLData as CemiLData
+use Rattle.host.specs.CemiLDataLaws as CemiLDataLaws
+use Rattle.host.specs.declared.reading.KnxFrame.{KnxFrame}
+use Rattle.host.specs.declared.cemi_ldata.KnxLData.{KnxLData}
 use Rattle.cemi.specs.Cemi as Cemi
 use Rattle.cemi.specs.CemiLaws as CemiLaws
 use Rattle.cemi.specs.declared.CEMIFrame.{CEMIFrame}
@@ -284,3 +298,27 @@ pub ldata-round-trip : (b : LDataBuilder) (d buf : List ℕ) (n : ℕ) (after : 
     → LDataBuilder.BuildPromise b d buf (W.Bytes n) after → LData.ParsePromise after (L.Frame f) → LData.DataPartPromise f after part
     → Application.SixBitPromise (getD after 8 0) six → LDataTrip.Back b d n f part six
 ldata-round-trip = LDataTrip.round-trip
+
+-- ---- the records that hold their slice, and the C border, agree with the records below them
+
+pub views-body : (s : List ℕ) (f : KnxnetIpFrame) (r : List ℕ) → KnxnetIp.ParsePromise s f → KnxnetIp.BodyPromise f r → KnxnetIp.BodyInPromise s r
+views-body = KnxnetIpLaws.body-in
+
+pub views-data : (s : List ℕ) (f : LDataFields) → LData.ParsePromise s (L.Frame f) → shown s (LData.dataBy01 crateCount f s) ≡ LDataView.dataIn s
+views-data = LDataViewLaws.fields-data
+
+-- the view of a frame is the one that `FrameFields::body` answers
+pub border-body : (s : List ℕ) (r : KnxFrame) (f : FrameFields) (v : View) → Reading.FramePromise s r → Frame.ParsePromise s (F.Frame f) → Frame.BodyPromise f s v
+    → (r .start ≡ v .start) × (r .end ≡ v .end)
+border-body = ReadingLaws.body-as
+
+-- the numbers of `knx_cemi_ldata` are those of the records that `parse`, `as_ldata` and `data` answer
+pub border-ldata : (s : List ℕ) (r : KnxLData) (f : CEMIFrame) (g : LDataFields) (v : View)
+    → CemiLData.CemiLDataPromise s r → Cemi.ParsePromise s (E.Frame f) → Cemi.AsLDataPromise f s (L.Frame g) → LData.DataPromise g (Cemi.serviceInfo s) v
+    → CemiLData.told r ≡ record {
+      number = 0;
+      values = MessageCodes.codeOf (f .«message_code») ∷ LData.values g ++ CemiLData.sixBitIn (isData (g .tpci)) (getD (Cemi.serviceInfo s) 8 0) ∷ [];
+      start = 2 + Cemi.infoLength s + v .start;
+      end = 2 + Cemi.infoLength s + v .end;
+    }
+border-ldata = CemiLDataLaws.ldata-as

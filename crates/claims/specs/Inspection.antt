@@ -1,11 +1,12 @@
 -- The inspection of a capture: stepping through it hands on its records, wherever its buffer is refilled, and 01's example, by computation.
-use Prim.Native.Nat.{ℕ, _≤_}
+use Prim.Native.Nat.{ℕ, _≤_, _<_}
 use mathlib.Core.Path.{_≡_, refl}
 use mathlib.Core.Bool.{true, false}
 use mathlib.Core.List.{List, [], _∷_}
 use lib.ListN.{length, drop}
 use Rattle.kip.specs.Capture.{startsBy01, whole, recordsOf, leftOf, records, left, NextPromise}
-use Rattle.kip.specs.Digits.{digitsOf}
+use Rattle.kip.specs.Digits.{digitsOf, decimal, hexDigit, readFrom, tens, hexValue}
+use Rattle.kip.specs.DigitLaws as DigitLaws
 use Rattle.kip.specs.Judge as Judge
 use Rattle.kip.specs.Line.{lineOf, endingOf}
 use Rattle.kip.specs.Stepping.{Move, Named, HandedOn, begun, ran}
@@ -32,6 +33,13 @@ scan-prints = Printing.prints
 -- and where it did not stop for want of room, no whole record is left
 pub scan-ends : (s out : List ℕ) (spot : Spot) (r : Scanned) (after : List ℕ) → ScanPromise s out spot r after → r .full ≡ false → whole (drop (r .spot .at) s) ≡ false
 scan-ends = Printing.ends
+
+-- what is printed reads as the number
+pub decimal-reads : (n : ℕ) → n < tens 20 → readFrom 0 (decimal n) ≡ n
+decimal-reads = DigitLaws.decimal-reads
+
+pub hex-reads : (d : ℕ) → d < 16 → hexValue (hexDigit d) ≡ d
+hex-reads = DigitLaws.hex-reads
 
 -- ---- 01's example
 

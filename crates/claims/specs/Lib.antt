@@ -1,4 +1,4 @@
--- What `claims` promises, in reading order: definitions, then laws.
+-- What is claimed, in the order of the three demands; then the rows, the empty versions, and that no contract has a second answer.
 pub mod Demand1
 pub mod Demand2
 pub mod Demand3
