@@ -193,8 +193,8 @@ pub fn frame_as_ldata_by(args: &[u8], _: &mut [u8]) -> Said {
     let code = CEMIMessageCode::from_u8(code)?;
     said(CEMIFrame::parse(input).and_then(|mut frame| {
         frame.message_code = code;
-        let mut values = vec![frame.is_ldata().into()];
-        values.extend(ldata_values(&frame.as_ldata()?, input));
+        let mut values = ldata_values(&frame.as_ldata()?, input);
+        values.push(frame.is_ldata().into());
         Ok(values)
     }))
 }

@@ -46,8 +46,8 @@ pub fn connect_build(args: &[u8], buf: &mut [u8]) -> Said {
 
 pub fn connect_response_parse(args: &[u8], _: &mut [u8]) -> Said {
     said(ConnectResponse::parse(args).map(|response| {
-        let mut values = vec![response.channel_id.into(), response.status.into()];
-        values.extend(hpai_values(&response.data_endpoint));
+        let mut values = hpai_values(&response.data_endpoint);
+        values.extend([response.channel_id, response.status].map(usize::from));
         values.extend(response.crd.map(usize::from));
         values.push(response.is_ok().into());
         values

@@ -5,8 +5,8 @@ use mathlib.Core.Bool.{true, false}
 use mathlib.Core.List.{List, [], _∷_}
 use lib.ListN.{length, drop}
 use Rattle.kip.specs.Capture.{startsBy01, whole, recordsOf, leftOf, records, left, NextPromise}
-use Rattle.kip.specs.Digits.{digitsOf, decimal, hexDigit, readFrom, tens, hexValue}
-use Rattle.kip.specs.DigitLaws as DigitLaws
+use Rattle.digits.specs.Digits.{digitsOf, decimal, hexDigit, readFrom, tens, hexValue}
+use Rattle.digits.specs.DigitLaws as DigitLaws
 use Rattle.kip.specs.Judge as Judge
 use Rattle.kip.specs.Line.{lineOf, endingOf}
 use Rattle.kip.specs.Stepping.{Move, Named, HandedOn, begun, ran}

@@ -2,8 +2,6 @@
 pub mod Capture
 pub mod Judge
 pub mod JudgeLaws
-pub mod Digits
-pub mod DigitLaws
 pub mod Line
 pub mod LineLaws
 pub mod CaptureLaws

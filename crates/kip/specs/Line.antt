@@ -8,7 +8,7 @@ use lib.Dec.{eqb}
 use Rattle.wire.specs.Told.{Told}
 use Rattle.wire.specs.Written.{WritePromise}
 use Rattle.wire.specs.declared.refusals.Written.{Written}
-use Rattle.kip.specs.Digits.{decimal, hex4}
+use Rattle.digits.specs.Digits.{decimal, hex4}
 use Rattle.kip.specs.Judge.{told}
 use Rattle.kip.specs.declared.judging.Judged.{Judged}
 

@@ -16,7 +16,7 @@ use Rattle.wire.specs.Parts.{partOf}
 use Rattle.wire.specs.declared.refusals.Refusal.the-variants.{BufferTooSmall}
 use Rattle.wire.specs.declared.refusals.Written.{Written}
 use Rattle.wire.specs.declared.refusals.Written.the-variants.{Bytes, Refused}
-use Rattle.kip.specs.Digits.{decimal}
+use Rattle.digits.specs.Digits.{decimal}
 use Rattle.kip.specs.Line.{closing, numbered, serviceText, refusedText, lineOf, LinePromise, cutText, cutFront, endingOf, EndingPromise}
 use Rattle.kip.specs.declared.judging.Judged.{Judged}
 

@@ -1,6 +1,5 @@
 // The capture format KIP 1: its start, its records one at a time from a lent buffer, what the frame checks say of each, and the lines of an inspection.
 mod capture;
-mod digits;
 mod judging;
 mod lines;
 mod scanning;

@@ -3,9 +3,8 @@ ghost use mathlib.Core.Path.{_≡_};
 ghost use Prim.Native.Nat.{_+_, _≤_};
 ghost use lib.ListN.{length};
 ghost use Rattle.wire.specs.Layout.{CopyPromise};
-ghost use Rattle.kip.specs.Digits.{decimal};
+ghost use Rattle.digits.specs.Digits.{decimal};
 ghost use Rattle.kip.specs.Line.{closing, LinePromise, EndingPromise, NumberedPromise, CutSizePromise};
-use crate::digits;
 use crate::judging::Judged;
 use wire::Refusal;
 use wire::Written;
@@ -33,7 +32,7 @@ fn numbered(n: u64, text: &[u8], last: u64, out: &mut [u8]) -> Written
     if out.len() < to_end + 1 {
         return Written::Refused(Refusal::BufferTooSmall);
     }
-    digits::put_decimal(n, out, 0, to_text);
+    digits::put_digits(n, out, 0, to_text);
     close(text, last, out, to_text, to_end);
     Written::Bytes(to_end + 1)
 }
@@ -69,6 +68,6 @@ fn close(text: &[u8], n: u64, out: &mut [u8], at: usize, feed: usize)
     let end = [b'\n'];
     let to_number = at + text.len();
     wire::copy_at(text, out, at);
-    digits::put_decimal(n, out, to_number, feed);
+    digits::put_digits(n, out, to_number, feed);
     wire::copy_at(&end, out, feed);
 }

@@ -1,149 +1,73 @@
-// What a call told, and its line of text in a lent buffer. What does not fit there is left out, and the line then differs from the one expected.
-ghost use Prim.Native.Nat.{_≤_};
-ghost use lib.ListN.{length};
-use wire::Refusal;
-use wire::Written;
+// The line of what a call told. A piece that does not fit is left out, and the line then differs from the one expected.
+ghost use mathlib.Core.Path.{_≡_};
+ghost use Rattle.digits.specs.Digits.{decimal};
+ghost use Rattle.replay.specs.Line as Line;
+use crate::telling::Told;
 
-// A number of 01 and the first `count` of the values; `lends` where the buffer is shown too.
-pub(crate) struct Told {
-    pub(crate) number: u8,
-    pub(crate) count: usize,
-    pub(crate) values: [usize; 16],
-    pub(crate) lends: bool,
-}
-
-pub(crate) fn refused(why: Refusal, count: usize) -> Told {
-    Told {
-        number: why.number(),
-        count,
-        values: [0; 16],
-        lends: false,
-    }
-}
-
-pub(crate) fn done(count: usize) -> Told {
-    Told {
-        number: 0,
-        count,
-        values: [0; 16],
-        lends: false,
-    }
-}
-
-pub(crate) fn one(n: usize) -> Told {
-    let mut t = done(1);
-    t.values[0] = n;
-    t
-}
-
-pub(crate) fn two(a: u8, b: u8) -> Told {
-    let mut t = done(2);
-    t.values[0] = a as usize;
-    t.values[1] = b as usize;
-    t
-}
-
-pub(crate) fn three(a: u8, b: u8, c: bool) -> Told {
-    let mut t = two(a, b);
-    t.count = 3;
-    t.values[2] = flag(c);
-    t
-}
-
-pub(crate) fn flag(b: bool) -> usize {
-    if b { 1 } else { 0 }
-}
-
-pub(crate) fn wide(x: u8) -> usize {
-    x as usize
-}
-
-// What an encoder or a builder answered.
-pub(crate) fn written(w: Written) -> Told {
-    let mut t = match w {
-        Written::Bytes(n) => one(n),
-        Written::Refused(why) => refused(why, 1),
-    };
-    t.lends = true;
-    t
-}
-
-pub(crate) fn line(out: &mut [u8], t: Told, buf: &[u8]) -> usize {
-    let a = decimal(out, 0, t.number as usize);
+pub fn line(t: Told, buf: &[u8], out: &mut [u8]) -> usize
+    ensures { λ r. ⌜ Line.LinePromise t (now (buf .entry)) (now (out .entry)) r (now (out .exit)) ⌝ }
+{
+    let a = decimal(out, 0, t.number as u64);
     let b = values(out, a, t);
     if t.lends {
         let c = buffer(out, b, buf);
-        return put(out, c, b'\n');
+        return text(out, c, b"\n");
     }
-    put(out, b, b'\n')
+    text(out, b, b"\n")
 }
 
-fn values(out: &mut [u8], at: usize, t: Told) -> usize {
+fn values(out: &mut [u8], at: usize, t: Told) -> usize
+    ensures { λ r. ⌜ Line.PiecesPromise (Line.values t) (now (out .entry)) at r (now (out .exit)) ⌝ }
+{
     let vs = t.values;
+    let n = shown(t.count);
     let mut to = at;
     let mut i: usize = 0;
-    while i < 16 {
-        if t.count <= i {
-            break;
-        }
-        to = put(out, to, b' ');
-        to = decimal(out, to, vs[i]);
+    while i < n {
+        to = text(out, to, b" ");
+        to = decimal(out, to, vs[i] as u64);
         i += 1;
     }
     to
 }
 
-fn put(out: &mut [u8], at: usize, x: u8) -> usize {
-    if at < out.len() {
-        out[at] = x;
-        return at + 1;
-    }
-    at
+fn shown(count: usize) -> usize
+    ensures { λ r. ⌜ Line.ShownPromise count r ⌝ }
+{
+    if count < 16 { count } else { 16 }
 }
 
-fn decimal(out: &mut [u8], at: usize, n: usize) -> usize {
-    let mut text = [0u8; 20];
-    let k = io::decimal(n as u64, &mut text);
-    copy(out, at, &text[..k])
+fn buffer(out: &mut [u8], at: usize, buf: &[u8]) -> usize
+    ensures { λ r. ⌜ Line.PiecesPromise (Line.buffer (now (buf .entry))) (now (out .entry)) at r (now (out .exit)) ⌝ }
+{
+    let k = touched(buf);
+    let a = text(out, at, b" | ");
+    let b = bytes(out, a, buf, k);
+    let c = text(out, b, b"+");
+    decimal(out, c, (buf.len() - k) as u64)
 }
 
-fn copy(out: &mut [u8], at: usize, text: &[u8]) -> usize {
+fn bytes(out: &mut [u8], at: usize, buf: &[u8], k: usize) -> usize
+    ensures { λ r. ⌜ Line.PiecesPromise (Line.pieces (Line.bytePieces (now (buf .entry))) k 0) (now (out .entry)) at r (now (out .exit)) ⌝ }
+{
     let mut to = at;
-    let mut i = 0;
-    while i < text.len() {
-        to = put(out, to, text[i]);
+    let mut i: usize = 0;
+    while i < k {
+        to = hex(out, to, wire::byte_at(buf, i));
         i += 1;
     }
     to
 }
 
 // What the lent buffer holds at a place before each call.
-pub(crate) fn pattern(i: usize) -> u8 {
+pub(crate) fn pattern(i: usize) -> u8
+    ensures { λ r. ⌜ Line.PatternPromise i r ⌝ }
+{
     (i % 251 + 1) as u8
 }
 
-fn digit(n: u8) -> u8 {
-    let d = n % 16;
-    if d < 10 { 48 + d } else { 87 + d }
-}
-
-// The buffer up to the last byte that is not the pattern's, and how many follow.
-fn buffer(out: &mut [u8], at: usize, buf: &[u8]) -> usize {
-    let k = touched(buf);
-    let mut to = copy(out, at, b" | ");
-    let mut i = 0;
-    while i < k {
-        let x = wire::byte_at(buf, i);
-        to = put(out, to, digit(x / 16));
-        to = put(out, to, digit(x));
-        i += 1;
-    }
-    to = put(out, to, b'+');
-    decimal(out, to, buf.len() - k)
-}
-
 fn touched(buf: &[u8]) -> usize
-    ensures { λ r. ⌜ r ≤ length (now (buf .entry)) ⌝ }
+    ensures { λ r. ⌜ Line.TouchedPromise (now (buf .entry)) r ⌝ }
 {
     let mut k = buf.len();
     while k > 0 {
@@ -154,4 +78,42 @@ fn touched(buf: &[u8]) -> usize
         k = i;
     }
     k
+}
+
+fn hex(out: &mut [u8], at: usize, x: u8) -> usize
+    ensures { λ r. ⌜ Line.PiecePromise (Line.hexByte x) (now (out .entry)) at r (now (out .exit)) ⌝ }
+{
+    let pair = [
+        digits::hex_digit((x / 16) as u16),
+        digits::hex_digit(x as u16),
+    ];
+    text(out, at, &pair)
+}
+
+fn decimal(out: &mut [u8], at: usize, n: u64) -> usize
+    ensures { λ r. ⌜ Line.PiecePromise (decimal n) (now (out .entry)) at r (now (out .exit)) ⌝ }
+{
+    let count = digits::places(n);
+    if out.len() < at {
+        return at;
+    }
+    if out.len() - at < count {
+        return at;
+    }
+    let end = at + count;
+    digits::put_digits(n, out, at, end);
+    end
+}
+
+fn text(out: &mut [u8], at: usize, s: &[u8]) -> usize
+    ensures { λ r. ⌜ Line.PiecePromise (now (s .entry)) (now (out .entry)) at r (now (out .exit)) ⌝ }
+{
+    if out.len() < at {
+        return at;
+    }
+    if out.len() - at < s.len() {
+        return at;
+    }
+    wire::copy_at(s, out, at);
+    at + s.len()
 }

@@ -1,6 +1,7 @@
 -- `close` keeps its contract. Assumes nothing.
 use native.Mathlib.Omega.{arith}
 use mathlib.Core.Path.{refl}
+use Rattle.digits.specs.DigitLaws.{decimal-stored}
 use Rattle.kip.specs.LineLaws.{closed}
 use borrow.Author.Needs.{needs}
 use Rattle.kip.proofs.lines.close.Statement.{statement}
@@ -12,8 +13,8 @@ add-to-number c = search needs
 copy-at-requires : tie.Need-copy-at-requires
 copy-at-requires c κs = search needs
 
-put-decimal-requires : tie.Need-put-decimal-requires
-put-decimal-requires c κs = search needs
+put-digits-requires : tie.Need-put-digits-requires
+put-digits-requires c κs = search needs
 
 slice-aggregate-copy-at : tie.Need-slice-aggregate-copy-at
 slice-aggregate-copy-at c = search needs
@@ -28,9 +29,9 @@ returns : tie.Need-returns
 returns c =
     let a = c .before .before .before .before .before .before .before .before .before .before .before .before .before .before .before .args in
     let one = c .before .before .before .before .before .before .before .before .before .before .before .copy-at in
-    let two = c .before .before .before .before .before .before .before .put-decimal in
+    let two = c .before .before .before .before .before .before .before .put-digits in
     let three = c .before .before .copy-at2 in
-    closed (a .text .now) (a .out .now) (one .last .1 .0) (two .last .1 .0) (three .last .1 .0) (a .n) (a .at) _ (a .feed) refl (omega arith) (omega arith) (one .ensures) (two .ensures) (three .ensures)
+    closed (a .text .now) (a .out .now) (one .last .1 .0) (two .last .1 .0) (three .last .1 .0) (a .n) (a .at) _ (a .feed) refl (omega arith) (omega arith) (one .ensures) (decimal-stored (one .last .1 .0) (two .last .1 .0) (a .n) _ (a .feed) (omega arith) (two .ensures)) (three .ensures)
 
 pub close-spec : {M : Type 1} → statement M
 close-spec =
@@ -38,7 +39,7 @@ close-spec =
     (tie.spec
     add-to-number
     copy-at-requires
-    put-decimal-requires
+    put-digits-requires
     slice-aggregate-copy-at
     copy-at-requires-2
     same-length

@@ -5,7 +5,7 @@ use mathlib.Core.Path.{ap, _∙_}
 use mathlib.Core.List.{List}
 use Rattle.wire.specs.Layout.{copied}
 use Rattle.wire.specs.Parts.{partOf}
-use Rattle.kip.specs.DigitLaws.{places-most}
+use Rattle.digits.specs.DigitLaws.{places-most}
 use Rattle.kip.specs.Line.{cutText, cutFront, recordsText}
 use Rattle.kip.specs.LineLaws.{no-room, laid, cut-part, cut-most}
 use borrow.Author.Needs.{needs}

@@ -2,8 +2,8 @@
 use Prim.Native.Nat.{_+_}
 use native.Mathlib.Omega.{arith}
 use lib.ListN.{length}
-use Rattle.kip.specs.Digits.{decimal}
-use Rattle.kip.specs.DigitLaws.{places-most}
+use Rattle.digits.specs.Digits.{decimal}
+use Rattle.digits.specs.DigitLaws.{places-most, decimal-stored}
 use Rattle.kip.specs.LineLaws.{no-room, laid}
 use borrow.Author.Needs.{needs}
 use Rattle.kip.proofs.lines.numbered.Statement.{statement}
@@ -31,8 +31,8 @@ returns c =
     let last = c .before .places2 in
     no-room (decimal (a .n)) (a .text .now) (a .out .now) (a .last) (first .result) (first .result + length (a .text .now) + last .result) (first .ensures) (omega (arith, last .ensures)) (omega arith)
 
-put-decimal-requires : tie.Need-put-decimal-requires
-put-decimal-requires c κs = search needs
+put-digits-requires : tie.Need-put-digits-requires
+put-digits-requires c κs = search needs
 
 close-requires : tie.Need-close-requires
 close-requires c κs = search needs
@@ -48,9 +48,9 @@ returns-2 c =
     let a = c .before .before .before .before .before .before .before .before .before .before .before .before .before .args in
     let first = c .before .before .before .before .before .before .before .before .before .before .places in
     let last = c .before .before .before .before .before .before .before .before .before .places2 in
-    let one = c .before .before .before .before .before .before .put-decimal in
+    let one = c .before .before .before .before .before .before .put-digits in
     let two = c .before .before .close in
-    laid (decimal (a .n)) (a .text .now) (a .out .now) (a .last) (first .result) (first .result + length (a .text .now) + last .result) (first .ensures) (omega (arith, last .ensures)) (omega arith) (one .last .1 .0) (two .last .1 .1 .0) (one .ensures) (two .ensures)
+    laid (decimal (a .n)) (a .text .now) (a .out .now) (a .last) (first .result) (first .result + length (a .text .now) + last .result) (first .ensures) (omega (arith, last .ensures)) (omega arith) (one .last .1 .0) (two .last .1 .1 .0) (decimal-stored (a .out .now) (one .last .1 .0) (a .n) 0 (first .result) (omega (arith, first .ensures)) (one .ensures)) (two .ensures)
 
 pub numbered-spec : {M : Type 1} → statement M
 numbered-spec =
@@ -62,7 +62,7 @@ numbered-spec =
     add-to-end-2
     add-if1
     returns
-    put-decimal-requires
+    put-digits-requires
     close-requires
     add-t8
     same-length

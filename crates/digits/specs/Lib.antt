@@ -1,0 +1,3 @@
+-- What `digits` promises: definitions, then laws.
+pub mod Digits
+pub mod DigitLaws

@@ -1,0 +1,81 @@
+// What a call told.
+ghost use mathlib.Core.Path.{_≡_};
+ghost use Rattle.replay.specs.Telling.{RefusedPromise, FewPromise, FlagPromise, lent, WrittenPromise};
+use wire::Refusal;
+use wire::Written;
+
+// A number of 01 and the first `count` of the values; `lends` where the buffer is shown too.
+pub struct Told {
+    pub number: u8,
+    pub count: usize,
+    pub values: [usize; 16],
+    pub lends: bool,
+}
+
+pub fn refused(why: Refusal, count: usize) -> Told
+    ensures { λ r. ⌜ RefusedPromise why count r ⌝ }
+{
+    Told {
+        number: why.number(),
+        count,
+        values: [0; 16],
+        lends: false,
+    }
+}
+
+// A call that is done, of at most four values.
+pub fn few(count: usize, four: [usize; 4]) -> Told
+    ensures { λ r. ⌜ FewPromise count four r ⌝ }
+{
+    Told {
+        number: 0,
+        count,
+        values: [
+            four[0],
+            four[1],
+            four[2],
+            four[3],
+            0,
+            0,
+            0,
+            0,
+            0,
+            0,
+            0,
+            0,
+            0,
+            0,
+            0,
+            0,
+        ],
+        lends: false,
+    }
+}
+
+pub fn flag(b: bool) -> usize
+    ensures { λ r. ⌜ FlagPromise b r ⌝ }
+{
+    if b { 1 } else { 0 }
+}
+
+// What an encoder or a builder answered.
+pub fn written(w: Written) -> Told
+    ensures { λ r. ⌜ WrittenPromise w r ⌝ }
+{
+    match w {
+        Written::Bytes(n) => lending(few(1, [n, 0, 0, 0])),
+        Written::Refused(why) => lending(refused(why, 1)),
+    }
+}
+
+fn lending(t: Told) -> Told
+    ensures { λ r. ⌜ r ≡ lent t ⌝ }
+{
+    let values = t.values;
+    Told {
+        number: t.number,
+        count: t.count,
+        values,
+        lends: true,
+    }
+}

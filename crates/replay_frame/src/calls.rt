@@ -1,0 +1,134 @@
+// The calls of frame.rs on headers and frames, 1 to 8. Argument bytes that are missing count as 0.
+use constants::ServiceAnswer;
+use constants::ServiceType;
+use frame::FrameAnswer;
+use frame::FrameBuilder;
+use frame::FrameFields;
+use header::HeaderAnswer;
+use header::KnxnetIpHeader;
+use replay::Told;
+
+pub(crate) fn answer(call: u8, args: &[u8], buf: &mut [u8]) -> Told {
+    match call {
+        1 => service_from(args),
+        2 => header_new(args),
+        3 => header_parse(args),
+        4 => header_encode(args, buf),
+        5 => header_body_length(args),
+        6 => frame_parse(args),
+        7 => frame_build(args, buf),
+        _ => frame_size(args),
+    }
+}
+
+fn service_from(args: &[u8]) -> Told {
+    match ServiceType::from_u16(wire::word_at(args, 0)) {
+        ServiceAnswer::Service(s) => replay::few(1, [s.to_u16() as usize, 0, 0, 0]),
+        ServiceAnswer::Refused(why) => replay::refused(why, 1),
+    }
+}
+
+// The service that a call is handed; a record names a known one.
+fn service_at(args: &[u8], at: usize) -> ServiceType {
+    match ServiceType::from_u16(wire::word_at(args, at)) {
+        ServiceAnswer::Service(s) => s,
+        ServiceAnswer::Refused(_) => ServiceType::ConnectRequest,
+    }
+}
+
+fn header(h: KnxnetIpHeader, count: usize) -> Told {
+    let s = h.service_type;
+    replay::few(
+        count,
+        [
+            h.header_length as usize,
+            h.protocol_version as usize,
+            s.to_u16() as usize,
+            h.total_length as usize,
+        ],
+    )
+}
+
+fn header_answer(a: HeaderAnswer) -> Told {
+    match a {
+        HeaderAnswer::Header(h) => header(h, 4),
+        HeaderAnswer::Refused(why) => replay::refused(why, 4),
+    }
+}
+
+fn header_new(args: &[u8]) -> Told {
+    header_answer(KnxnetIpHeader::new(
+        service_at(args, 0),
+        replay::number24(wire::part(args, 2, args.len())),
+    ))
+}
+
+fn header_parse(args: &[u8]) -> Told {
+    header_answer(KnxnetIpHeader::parse(args))
+}
+
+fn header_at(args: &[u8]) -> KnxnetIpHeader {
+    let service_type = service_at(args, 2);
+    KnxnetIpHeader {
+        header_length: wire::byte_at(args, 0),
+        protocol_version: wire::byte_at(args, 1),
+        service_type,
+        total_length: wire::word_at(args, 4),
+    }
+}
+
+fn header_encode(args: &[u8], buf: &mut [u8]) -> Told {
+    replay::written(header_at(args).encode(buf))
+}
+
+fn header_body_length(args: &[u8]) -> Told {
+    replay::few(1, [header_at(args).body_length() as usize, 0, 0, 0])
+}
+
+fn frame_parse(args: &[u8]) -> Told {
+    match FrameFields::parse(args) {
+        FrameAnswer::Frame(f) => frame(f, args),
+        FrameAnswer::Refused(why) => replay::refused(why, 9),
+    }
+}
+
+// What the four accessors tell of a frame that was parsed.
+fn frame(f: FrameFields, args: &[u8]) -> Told {
+    let mut t = frame_header(f.header(args));
+    let s = service_from_answer(f.service_type(args));
+    let body = f.body(args);
+    let data = f.data(args);
+    t.values[4] = s;
+    t.values[5] = body.start;
+    t.values[6] = body.end;
+    t.values[7] = data.start;
+    t.values[8] = data.end;
+    t
+}
+
+fn frame_header(a: HeaderAnswer) -> Told {
+    match a {
+        HeaderAnswer::Header(h) => header(h, 9),
+        HeaderAnswer::Refused(why) => replay::refused(why, 9),
+    }
+}
+
+fn service_from_answer(a: ServiceAnswer) -> usize {
+    match a {
+        ServiceAnswer::Service(s) => s.to_u16() as usize,
+        ServiceAnswer::Refused(_) => 0,
+    }
+}
+
+fn frame_build(args: &[u8], buf: &mut [u8]) -> Told {
+    let body = wire::part(args, 2, args.len());
+    replay::written(FrameBuilder::new(service_at(args, 0)).build(body, buf))
+}
+
+fn frame_size(args: &[u8]) -> Told {
+    let body = wire::part(args, 2, args.len());
+    replay::few(
+        1,
+        [FrameBuilder::new(service_at(args, 0)).size(body), 0, 0, 0],
+    )
+}

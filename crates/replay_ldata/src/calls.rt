@@ -1,0 +1,211 @@
+// The calls of cemi.rs on L_Data and cEMI frames, 40 to 44, and the L_Data builder, 45.
+use address::IndividualAddress;
+use cemi::CEMIAnswer;
+use cemi::CEMIFrame;
+use cemi::InfoLengthAnswer;
+use constants::CEMIMessageCode;
+use constants::CEMIMessageCodeAnswer;
+use control::ControlField1;
+use control::ControlField2;
+use ldata::GroupAddressAnswer;
+use ldata::IndividualAddressAnswer;
+use ldata::LDataAnswer;
+use ldata::LDataBuilder;
+use ldata::LDataFields;
+use pci::Tpci;
+use replay::Told;
+
+pub(crate) fn answer(call: u8, args: &[u8], buf: &mut [u8]) -> Told {
+    match call {
+        40 => ldata_parse(args),
+        41 => cemi_parse(args),
+        42 => service_info(args),
+        43 => as_ldata(args),
+        44 => as_ldata_set(args),
+        _ => ldata_build(args, buf),
+    }
+}
+
+// The nine values of the fields, and where the data stands.
+fn fields(f: LDataFields, start: usize, end: usize) -> Told {
+    let tpci = f.tpci;
+    let apci = f.apci;
+    let code = apci.to_u16();
+    Told {
+        number: 0,
+        count: 11,
+        values: [
+            f.ctrl1.raw() as usize,
+            f.ctrl2.raw() as usize,
+            f.source.to_u16() as usize,
+            f.destination_raw as usize,
+            f.npdu_length as usize,
+            (tpci.to_byte() / 64) as usize,
+            tpci.sequence() as usize,
+            code as usize,
+            replay::flag(!apci.is_named(code)),
+            start,
+            end,
+            0,
+            0,
+            0,
+            0,
+            0,
+        ],
+        lends: false,
+    }
+}
+
+fn ldata_parse(args: &[u8]) -> Told {
+    match LDataFields::parse(args) {
+        LDataAnswer::Frame(f) => ldata(f, args),
+        LDataAnswer::Refused(why) => replay::refused(why, 16),
+    }
+}
+
+fn ldata(f: LDataFields, args: &[u8]) -> Told {
+    let view = f.data(args);
+    let mut t = fields(f, view.start, view.end);
+    t.count = 16;
+    t.values[11] = group(f);
+    t.values[12] = individual(f);
+    t.values[13] = replay::flag(f.is_group_write());
+    t.values[14] = replay::flag(f.is_group_read());
+    t.values[15] = replay::flag(f.is_group_response());
+    t
+}
+
+// An address is shown as one more than its number, none as 0.
+fn group(f: LDataFields) -> usize {
+    match f.destination_group() {
+        GroupAddressAnswer::Address(a) => a.to_u16() as usize + 1,
+        GroupAddressAnswer::None => 0,
+    }
+}
+
+fn individual(f: LDataFields) -> usize {
+    match f.destination_individual() {
+        IndividualAddressAnswer::Address(a) => a.to_u16() as usize + 1,
+        IndividualAddressAnswer::None => 0,
+    }
+}
+
+fn cemi_parse(args: &[u8]) -> Told {
+    match CEMIFrame::parse(args) {
+        CEMIAnswer::Frame(f) => cemi(f, args),
+        CEMIAnswer::Refused(why) => replay::refused(why, 3),
+    }
+}
+
+fn cemi(f: CEMIFrame, args: &[u8]) -> Told {
+    let code = f.message_code();
+    match f.additional_info_length(args) {
+        InfoLengthAnswer::Length(n) => replay::few(
+            3,
+            [
+                code.to_u8() as usize,
+                n as usize,
+                replay::flag(f.is_ldata()),
+                0,
+            ],
+        ),
+        InfoLengthAnswer::Refused(why) => replay::refused(why, 3),
+    }
+}
+
+fn service_info(args: &[u8]) -> Told {
+    match CEMIFrame::parse(args) {
+        CEMIAnswer::Frame(f) => shown(f.service_info(args)),
+        CEMIAnswer::Refused(why) => replay::refused(why, 2),
+    }
+}
+
+fn shown(view: wire::View) -> Told {
+    let mut t = replay::few(2, [view.start, view.end, 0, 0]);
+    t.number = view.number;
+    t
+}
+
+fn as_ldata(args: &[u8]) -> Told {
+    match CEMIFrame::parse(args) {
+        CEMIAnswer::Frame(f) => inside(f, args, 11),
+        CEMIAnswer::Refused(why) => replay::refused(why, 11),
+    }
+}
+
+// The L_Data frame in a cEMI frame; its data is found in the part that holds it.
+fn inside(f: CEMIFrame, args: &[u8], count: usize) -> Told {
+    match f.as_ldata(args) {
+        LDataAnswer::Frame(l) => {
+            let info = f.service_info(args);
+            let view = l.data(f.service_info_part(args));
+            fields(
+                l,
+                moved(info.start, view.start),
+                moved(info.start, view.end),
+            )
+        }
+        LDataAnswer::Refused(why) => replay::refused(why, count),
+    }
+}
+
+// A place in the part, as a place in the whole.
+fn moved(start: usize, at: usize) -> usize {
+    if at < 1000000 {
+        if start < 1000000 {
+            return start + at;
+        }
+    }
+    0
+}
+
+// The record's code is set by hand; a code that is not known leaves the frame's own. Whether it is L_Data stands behind the eleven values.
+fn as_ldata_set(args: &[u8]) -> Told {
+    let whole = wire::part(args, 1, args.len());
+    match CEMIFrame::parse(whole) {
+        CEMIAnswer::Frame(f) => set(with_code(f, wire::byte_at(args, 0)), whole),
+        CEMIAnswer::Refused(why) => replay::refused(why, 12),
+    }
+}
+
+fn set(f: CEMIFrame, whole: &[u8]) -> Told {
+    let mut t = inside(f, whole, 12);
+    if t.number == 0 {
+        t.count = 12;
+        t.values[11] = replay::flag(f.is_ldata());
+    }
+    t
+}
+
+fn with_code(f: CEMIFrame, code: u8) -> CEMIFrame {
+    match CEMIMessageCode::from_u8(code) {
+        CEMIMessageCodeAnswer::Code(message_code) => CEMIFrame { message_code },
+        CEMIMessageCodeAnswer::Refused(_) => f,
+    }
+}
+
+fn tpci_at(kind: u8, sequence: u8) -> Tpci {
+    match kind {
+        0 => Tpci::UnnumberedData,
+        1 => Tpci::NumberedData { sequence },
+        2 => Tpci::UnnumberedControl,
+        _ => Tpci::NumberedControl { sequence },
+    }
+}
+
+fn ldata_build(args: &[u8], buf: &mut [u8]) -> Told {
+    let ctrl1 = ControlField1::from_u8(wire::byte_at(args, 0));
+    let ctrl2 = ControlField2::from_u8(wire::byte_at(args, 1));
+    let source = IndividualAddress::from_u16(wire::word_at(args, 2));
+    let tpci = tpci_at(wire::byte_at(args, 6), wire::byte_at(args, 7));
+    let builder = LDataBuilder {
+        ctrl1,
+        ctrl2,
+        source,
+        destination_raw: wire::word_at(args, 4),
+        tpci,
+        apci_code: wire::word_at(args, 8),
+        six_bit: wire::byte_at(args, 10),
+    };
+    replay::written(builder.build(wire::part(args, 11, args.len()), buf))
+}

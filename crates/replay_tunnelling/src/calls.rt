@@ -1,0 +1,79 @@
+// The calls of services.rs that tunnel, 22 to 27.
+use replay::Told;
+use tunnelling::ConnectionHeader;
+use tunnelling::ConnectionHeaderAnswer;
+use tunnelling::TunnelingAck;
+use tunnelling::TunnelingAckAnswer;
+use tunnelling::TunnelingRequest;
+use tunnelling::TunnelingRequestAnswer;
+
+pub(crate) fn answer(call: u8, args: &[u8], buf: &mut [u8]) -> Told {
+    match call {
+        22 => header_encode(args, buf),
+        23 => header_decode(args),
+        24 => request_build(args, buf),
+        25 => request_parse(args),
+        26 => ack_build(args, buf),
+        _ => ack_parse(args),
+    }
+}
+
+fn header_at(args: &[u8]) -> ConnectionHeader {
+    ConnectionHeader::new(wire::byte_at(args, 0), wire::byte_at(args, 1))
+}
+
+fn header_encode(args: &[u8], buf: &mut [u8]) -> Told {
+    replay::written(header_at(args).encode(buf))
+}
+
+fn header_decode(args: &[u8]) -> Told {
+    match ConnectionHeader::decode(args) {
+        ConnectionHeaderAnswer::Header(h) => told(h, 2, 0, 0),
+        ConnectionHeaderAnswer::Refused(why) => replay::refused(why, 2),
+    }
+}
+
+fn request_build(args: &[u8], buf: &mut [u8]) -> Told {
+    let cemi = wire::part(args, 2, args.len());
+    replay::written(TunnelingRequest::new(header_at(args)).build(cemi, buf))
+}
+
+fn request_parse(args: &[u8]) -> Told {
+    match TunnelingRequest::parse(args) {
+        TunnelingRequestAnswer::Request(q) => request(q, args),
+        TunnelingRequestAnswer::Refused(why) => replay::refused(why, 4),
+    }
+}
+
+fn request(q: TunnelingRequest, args: &[u8]) -> Told {
+    let view = q.cemi_data(args);
+    told(q.connection_header, 4, view.start, view.end)
+}
+
+fn ack_build(args: &[u8], buf: &mut [u8]) -> Told {
+    replay::written(TunnelingAck::new(header_at(args), wire::byte_at(args, 2)).build(buf))
+}
+
+fn ack_parse(args: &[u8]) -> Told {
+    match TunnelingAck::parse(args) {
+        TunnelingAckAnswer::Ack(a) => ack(a),
+        TunnelingAckAnswer::Refused(why) => replay::refused(why, 4),
+    }
+}
+
+fn ack(a: TunnelingAck) -> Told {
+    told(
+        a.connection_header,
+        4,
+        a.status as usize,
+        replay::flag(a.is_ok()),
+    )
+}
+
+// Channel and sequence, and two values behind them.
+fn told(h: ConnectionHeader, count: usize, c: usize, d: usize) -> Told {
+    replay::few(
+        count,
+        [h.channel_id as usize, h.sequence_counter as usize, c, d],
+    )
+}
