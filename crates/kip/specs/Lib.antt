@@ -11,3 +11,4 @@ pub mod Stepping
 pub mod Scan
 pub mod ScanLaws
 pub mod Printed
+pub mod Inspecting
