@@ -51,7 +51,7 @@ unfolding tens
 tens-some zero = omega arith
 tens-some (suc j) = omega (arith, tens-some j)
 
--- as many digits at once as the number has, and those that are left
+-- j of the digits counted at once, where there are more
 pub places-turn : (j k n : ℕ) → j ≤ k → tens j ≤ n → length (decimalIn k n) ≡ length (decimalIn (k - j) (n / tens j)) + j
 unfolding tens
 places-turn zero k n h some =
