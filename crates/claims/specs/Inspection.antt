@@ -1,19 +1,23 @@
--- The inspection of a capture: stepping through it hands on its records, wherever its buffer is refilled, and 01's example, by computation.
-use Prim.Native.Nat.{ℕ, _≤_, _<_}
+-- The inspection of a capture: stepping through it hands on its records, wherever its buffer is refilled, what the program's turns write is what 01 says, and 01's example, by computation. Assumes nothing.
+use Prim.Native.Nat.{ℕ, _^_, _≤_, _<_}
+use native.Mathlib.Omega.{arith}
 use mathlib.Core.Path.{_≡_, refl}
-use mathlib.Core.Bool.{true, false}
-use mathlib.Core.List.{List, [], _∷_}
-use lib.ListN.{length, drop}
+use mathlib.Core.Bool.{Bool, true, false}
+use mathlib.Core.List.{List, [], _∷_, _++_}
+use lib.ListN.{length, take, drop, replicate}
+use Rattle.wire.specs.declared.refusals.Written.the-variants.{Bytes}
 use Rattle.kip.specs.Capture.{startsBy01, whole, recordsOf, leftOf, records, left, NextPromise}
 use Rattle.digits.specs.Digits.{digitsOf, decimal, hexDigit, readFrom, tens, hexValue}
 use Rattle.digits.specs.DigitLaws as DigitLaws
 use Rattle.kip.specs.Judge as Judge
-use Rattle.kip.specs.Line.{lineOf, endingOf}
+use Rattle.kip.specs.Line.{lineOf, endingOf, EndingPromise}
 use Rattle.kip.specs.Stepping.{Move, Named, HandedOn, begun, ran}
 use Rattle.kip.specs.Stepping as Stepping
-use Rattle.kip.specs.Scan.{scanned, ScanPromise}
+use Rattle.kip.specs.Scan.{scanned, scanOf, ScanPromise}
 use Rattle.kip.specs.Printed.{Printed}
 use Rattle.kip.specs.Printed as Printing
+use Rattle.kip.specs.Inspecting.{Inspecting, Step, ScanOn, WriteOut, ToFront, ReadOn, SoFar, AtEnd, unread, gathered, stepped, inspecting, output, inspectedBy01}
+use Rattle.kip.specs.Inspecting as Inspects
 use Rattle.kip.specs.declared.capture.Next.the-variants.{Record}
 use Rattle.kip.specs.declared.scanning.Spot.{Spot}
 use Rattle.kip.specs.declared.scanning.Scanned.{Scanned}
@@ -33,6 +37,27 @@ scan-prints = Printing.prints
 -- and where it did not stop for want of room, no whole record is left
 pub scan-ends : (s out : List ℕ) (spot : Spot) (r : Scanned) (after : List ℕ) → ScanPromise s out spot r after → r .full ≡ false → whole (drop (r .spot .at) s) ≡ false
 scan-ends = Printing.ends
+
+-- whatever turns scan the buffer, write out what is gathered, move what is left to the front and read on: what was printed are the lines of the first records of the capture, and the others are still to come
+pub prints-so-far : (s out : List ℕ) (ms : List Step) → SoFar s (inspecting s out ms)
+prints-so-far = Inspects.prints-so-far
+
+-- and when all is read and no whole record is left unread, as `scan-ends` has it, those of all its records, which are counted, and what is unread is the unfinished one
+pub prints-all : (s out : List ℕ) (ms : List Step) → inspecting s out ms .ahead ≡ [] → whole (unread (inspecting s out ms)) ≡ false → AtEnd s (inspecting s out ms)
+prints-all = Inspects.prints-all
+
+-- so that with the ending all that is written is what 01 says
+pub inspects : (s out : List ℕ) (ms : List Step) → length (records s) < 2 ^ 64 → inspecting s out ms .ahead ≡ [] → whole (unread (inspecting s out ms)) ≡ false
+    → output (inspecting s out ms) ≡ inspectedBy01 s
+inspects = Inspects.inspects
+
+-- a call of `scan` is such a turn, and what a call of `ending` wrote is that ending
+pub scan-steps : (i : Inspecting) (r : Scanned) (after : List ℕ) → ScanPromise (i .buffer) (i .out) (i .spot) r after
+    → stepped i ScanOn ≡ record { buffer = i .buffer; ahead = i .ahead; spot = r .spot; out = after; written = i .written }
+scan-steps = Inspects.scan-steps
+
+pub ending-writes : (n : ℕ) (cut : Bool) (out : List ℕ) (k : ℕ) (after : List ℕ) → EndingPromise n cut out (Bytes k) after → take k after ≡ endingOf n cut
+ending-writes = Inspects.ending-writes
 
 -- what is printed reads as the number
 pub decimal-reads : (n : ℕ) → n < tens 20 → readFrom 0 (decimal n) ≡ n
@@ -76,4 +101,31 @@ example = record {
   second-line = refl;
   last-line = refl;
   cut-line = refl;
+}
+
+-- those two records and a lone byte, with an output of twelve bytes: read to the middle of the first record, then to that of the second, whose line has no room behind the first one's until that is written out
+abbrev unfinished : List ℕ
+unfinished = behind ++ 0x00 ∷ []
+
+abbrev to-no-room : List Step
+to-no-room = ReadOn 5 ∷ ScanOn ∷ ReadOn 15 ∷ ScanOn ∷ ToFront ∷ ReadOn 9 ∷ ScanOn ∷ []
+
+abbrev turns : List Step
+turns = to-no-room ++ WriteOut ∷ ScanOn ∷ []
+
+pub record InTurns : Type 0 where
+  pub no-room : unread (inspecting unfinished (replicate 12 0) to-no-room) ≡ 0x00 ∷ 0x06 ∷ second ++ 0x00 ∷ []
+  pub first-written : inspecting unfinished (replicate 12 0) turns .written ≡ lineOf 1 (record { number = 0; service = 0x0421; total = 11 })
+  pub second-gathered : gathered (inspecting unfinished (replicate 12 0) turns) ≡ lineOf 2 (record { number = 2; service = 0; total = 0 })
+  pub all-output : output (inspecting unfinished (replicate 12 0) turns) ≡ inspectedBy01 unfinished
+  pub all-lines : inspectedBy01 unfinished ≡ lineOf 1 (record { number = 0; service = 0x0421; total = 11 }) ++ lineOf 2 (record { number = 2; service = 0; total = 0 }) ++ endingOf 2 true
+
+pub in-turns : InTurns
+unfolding recordsOf leftOf digitsOf scanOf
+in-turns = record {
+  no-room = refl;
+  first-written = refl;
+  second-gathered = refl;
+  all-output = inspects unfinished (replicate 12 0) turns (omega arith) refl refl;
+  all-lines = refl;
 }

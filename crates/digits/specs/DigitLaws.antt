@@ -1,6 +1,7 @@
 -- How many digits a number has, how they are stored from the right, and that what is printed reads as the number. Assumes nothing.
 use Prim.Native.Nat.{ℕ, zero, suc, _+_, _-_, _*_, _/_, _%_, _<_, _≤_}
 use native.Mathlib.Omega.{arith}
+use native.Mathlib.Nat.{div-one, div-div-eq-div-mul}
 use mathlib.Core.Path.{_≡_, refl, sym, ap, _∙_}
 use mathlib.Core.Bool.{Bool, true, false, cond}
 use mathlib.Core.List.{List, [], _∷_, _++_, append-assoc, append-nil}
@@ -42,66 +43,57 @@ last-place k n h = go (eqb n 0) refl
     go true e = let z : n / 10 ≡ 0 = omega (arith, eqb-true n 0 e) in ap (λ (k : ℕ). k + 1) (sym (ap (λ (m : ℕ). length (digitsOf (k - 1) m)) z ∙ none-left (k - 1)))
     go false e = one-more k n h (eqb-false n 0 e)
 
--- the last two, where there are two
-two-places : (k n : ℕ) → 2 ≤ k → 10 ≤ n → length (decimalIn k n) ≡ length (digitsOf (k - 2) (n / 100)) + 2
-two-places k n h some =
-    let q : k - 1 - 1 ≡ k - 2 = omega arith in
-    let d : n / 10 / 10 ≡ n / 100 = omega arith in
-    let x = last-place k n (omega arith) in
-    let y = one-more (k - 1) (n / 10) (omega arith) (λ z. omega arith) in
-    let z = ap (λ (j : ℕ). length (digitsOf j (n / 10 / 10))) q ∙ ap (λ (m : ℕ). length (digitsOf (k - 2) m)) d in
+-- one digit more than what stands above the last one, where something does
+place-more : (k n : ℕ) → 1 ≤ k → 10 ≤ n → length (decimalIn k n) ≡ length (decimalIn (k - 1) (n / 10)) + 1
+place-more k n h some = omega (arith, last-place k n h, some-digits (k - 1) (n / 10) (λ z. omega arith))
+
+tens-some : (j : ℕ) → 1 ≤ tens j
+unfolding tens
+tens-some zero = omega arith
+tens-some (suc j) = omega (arith, tens-some j)
+
+-- j of the digits counted at once, where there are more
+pub places-turn : (j k n : ℕ) → j ≤ k → tens j ≤ n → length (decimalIn k n) ≡ length (decimalIn (k - j) (n / tens j)) + j
+unfolding tens
+places-turn zero k n h some =
+    let q : k - 0 ≡ k = omega arith in
+    let x : length (decimalIn (k - 0) (n / tens 0)) ≡ length (decimalIn k n) = ap (λ (i : ℕ). length (decimalIn i (n / 1))) q ∙ ap (λ (m : ℕ). length (decimalIn k m)) (div-one n) in
+    omega (arith, x)
+places-turn (suc j) k n h some =
+    let t : ℕ = tens j in
+    let q : k - 1 - j ≡ k - suc j = omega arith in
+    let x = place-more k n (omega arith) (omega (arith, tens-some j)) in
+    let y = places-turn j (k - 1) (n / 10) (omega arith) (omega arith) in
+    let z = ap (λ (i : ℕ). length (decimalIn i (n / 10 / t))) q ∙ ap (λ (m : ℕ). length (decimalIn (k - suc j) m)) (div-div-eq-div-mul n 10 t) in
     omega (arith, x, y, z)
-
-three-places : (k n : ℕ) → 3 ≤ k → 100 ≤ n → length (decimalIn k n) ≡ length (digitsOf (k - 3) (n / 1000)) + 3
-three-places k n h some =
-    let q : k - 2 - 1 ≡ k - 3 = omega arith in
-    let d : n / 100 / 10 ≡ n / 1000 = omega arith in
-    let x = two-places k n (omega arith) (omega arith) in
-    let y = one-more (k - 2) (n / 100) (omega arith) (λ z. omega arith) in
-    let z = ap (λ (j : ℕ). length (digitsOf j (n / 100 / 10))) q ∙ ap (λ (m : ℕ). length (digitsOf (k - 3) m)) d in
-    omega (arith, x, y, z)
-
-four-places : (k n : ℕ) → 4 ≤ k → 1000 ≤ n → length (decimalIn k n) ≡ length (digitsOf (k - 4) (n / 10000)) + 4
-four-places k n h some =
-    let q : k - 3 - 1 ≡ k - 4 = omega arith in
-    let d : n / 1000 / 10 ≡ n / 10000 = omega arith in
-    let x = three-places k n (omega arith) (omega arith) in
-    let y = one-more (k - 3) (n / 1000) (omega arith) (λ z. omega arith) in
-    let z = ap (λ (j : ℕ). length (digitsOf j (n / 1000 / 10))) q ∙ ap (λ (m : ℕ). length (digitsOf (k - 4) m)) d in
-    omega (arith, x, y, z)
-
--- ---- counted by fours
-
-pub places-turn : (k n : ℕ) → 4 ≤ k → 10000 ≤ n → length (decimalIn k n) ≡ length (decimalIn (k - 4) (n / 10000)) + 4
-places-turn k n h some = omega (arith, four-places k n h (omega arith), some-digits (k - 4) (n / 10000) (λ z. omega arith))
-
--- nothing is left above the places that were counted
-none-above : (k m : ℕ) → m ≡ 0 → length (digitsOf k m) ≡ 0
-none-above k m z = ap (λ (x : ℕ). length (digitsOf k x)) z ∙ none-left k
 
 pub one-place : (k n : ℕ) → 1 ≤ k → n < 10 → length (decimalIn k n) ≡ 1
-one-place k n h l = omega (arith, last-place k n h, none-above (k - 1) (n / 10) (omega arith))
+one-place k n h l =
+    let z : n / 10 ≡ 0 = omega arith in
+    omega (arith, last-place k n h, ap (λ (m : ℕ). length (digitsOf (k - 1) m)) z, none-left (k - 1))
 
-pub two-exactly : (k n : ℕ) → 2 ≤ k → 10 ≤ n → n < 100 → length (decimalIn k n) ≡ 2
-two-exactly k n h a l = omega (arith, two-places k n h a, none-above (k - 2) (n / 100) (omega arith))
+-- a number that has a digit for every place fills them
+pub all-places : (j n : ℕ) → tens j ≤ n → length (decimalIn (suc j) n) ≡ suc j
+all-places j n some =
+    let q : suc j - j ≡ 1 = omega arith in
+    let m : ℕ = n / tens j in
+    omega (arith, places-turn j (suc j) n (omega arith) some, ap (λ (i : ℕ). length (decimalIn i m)) q, last-place 1 m (omega arith), no-place (m / 10))
 
-pub three-exactly : (k n : ℕ) → 3 ≤ k → 100 ≤ n → n < 1000 → length (decimalIn k n) ≡ 3
-three-exactly k n h a l = omega (arith, three-places k n h a, none-above (k - 3) (n / 1000) (omega arith))
-
-pub four-exactly : (n : ℕ) → 1000 ≤ n → length (decimalIn 4 n) ≡ 4
-four-exactly n a = omega (arith, four-places 4 n (omega arith) a, no-place (n / 10000))
-
--- below 10,000 four places are enough
-pub enough-places : (k n : ℕ) → 4 ≤ k → n < 10000 → length (decimalIn k n) ≡ length (decimalIn 4 n)
-enough-places k n h l = go (ltb n 10) (ltb n 100) (ltb n 1000) refl refl refl
+-- more places than a number has digits make no difference
+pub enough-places : (j k n : ℕ) → suc j ≤ k → n < tens (suc j) → length (decimalIn k n) ≡ length (decimalIn (suc j) n)
+unfolding tens
+enough-places zero k n h l = one-place k n h (omega arith) ∙ sym (one-place 1 n (omega arith) (omega arith))
+enough-places (suc j) k n h l = go (ltb n 10) refl (enough-places j (k - 1) (n / 10) (omega arith) (omega arith))
   where
-    go : (a b c : Bool) → ltb n 10 ≡ a → ltb n 100 ≡ b → ltb n 1000 ≡ c → length (decimalIn k n) ≡ length (decimalIn 4 n)
-    go true b c e f g = let x = ltb-true n 10 e in omega (arith, one-place k n (omega arith) x, one-place 4 n (omega arith) x)
-    go false true c e f g = let x = ltb-false n 10 e in let y = ltb-true n 100 f in omega (arith, two-exactly k n (omega arith) x y, two-exactly 4 n (omega arith) x y)
-    go false false true e f g = let x = ltb-false n 100 f in let y = ltb-true n 1000 g in omega (arith, three-exactly k n (omega arith) x y, three-exactly 4 n (omega arith) x y)
-    go false false false e f g =
-        let x = ltb-false n 1000 g in
-        omega (arith, four-places k n h x, none-above (k - 4) (n / 10000) (omega arith), four-exactly n x)
+    go : (b : Bool) → ltb n 10 ≡ b → length (decimalIn (k - 1) (n / 10)) ≡ length (decimalIn (suc j) (n / 10)) → length (decimalIn k n) ≡ length (decimalIn (suc (suc j)) n)
+    go true e ih = let x = ltb-true n 10 e in one-place k n (omega arith) x ∙ sym (one-place (suc (suc j)) n (omega arith) x)
+    go false e ih =
+        let x = ltb-false n 10 e in
+        let q : suc (suc j) - 1 ≡ suc j = omega arith in
+        omega (arith, ih, place-more k n (omega arith) x, place-more (suc (suc j)) n (omega arith) x, ap (λ (i : ℕ). length (decimalIn i (n / 10))) q)
+
+pub exactly : (j k n : ℕ) → suc j ≤ k → tens j ≤ n → n < tens (suc j) → length (decimalIn k n) ≡ suc j
+exactly j k n h some l = enough-places j k n h l ∙ all-places j n some
 
 -- a number of 64 bits has at most twenty digits, as is its definition's bound
 digits-most : (k n : ℕ) → length (digitsOf k n) ≤ k

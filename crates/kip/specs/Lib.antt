@@ -9,3 +9,4 @@ pub mod Stepping
 pub mod Scan
 pub mod ScanLaws
 pub mod Printed
+pub mod Inspecting

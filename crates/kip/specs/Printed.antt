@@ -1,12 +1,12 @@
 -- What a scan prints are the lines of the records that it hands on, numbered one after the other; what it leaves is where the rest of the records starts. Assumes nothing.
-use Prim.Native.Nat.{ℕ, zero, suc, _+_, _-_, _≤_}
+use Prim.Native.Nat.{ℕ, zero, suc, _+_, _-_, _%_, _^_, _<_, _≤_}
 use native.Mathlib.Omega.{arith}
 use native.Mathlib.Nat.{add-zero}
 use mathlib.Core.Path.{_≡_, refl, sym, ap, _∙_}
 use mathlib.Core.Bool.{Bool, true, false, cond}
-use mathlib.Core.List.{List, [], _∷_, _++_, append-nil}
+use mathlib.Core.List.{List, [], _∷_, _++_, append-assoc, append-nil}
 use lib.ListN.{length, take, drop, length-drop, length-append, take-append-drop}
-use lib.Seq.{drop-drop, length-take-le}
+use lib.Seq.{drop-drop, length-take-le, take-at}
 use lib.Dec.{leb}
 use borrow.Author.Tests.{leb-true}
 use Rattle.wire.specs.Layout.{wordAt, copied}
@@ -15,7 +15,7 @@ use Rattle.kip.specs.Capture.{whole, firstIn, restIn, records, left}
 use Rattle.kip.specs.CaptureLaws.{word-drop}
 use Rattle.kip.specs.Judge.{judgeBy01}
 use Rattle.kip.specs.Line.{lineTold}
-use Rattle.kip.specs.Stepping.{is-whole, first-off}
+use Rattle.kip.specs.Stepping.{Off, is-whole, first-off}
 use Rattle.kip.specs.Scan.{Scan, follows, lineAt, scanOf, scanned, ScanPromise}
 use Rattle.kip.specs.declared.scanning.Spot.{Spot}
 use Rattle.kip.specs.declared.scanning.Scanned.{Scanned}
@@ -25,13 +25,25 @@ abbrev pub linesOf : ℕ → List (List ℕ) → List ℕ
 linesOf n [] = []
 linesOf n (r ∷ rs) = lineTold (follows n) (judgeBy01 r) ++ linesOf (follows n) rs
 
+-- the lines of more records behind those, numbered on
+pub lines-on : (n : ℕ) (rs more : List (List ℕ)) → n < 2 ^ 64 → linesOf n (rs ++ more) ≡ linesOf n rs ++ linesOf ((n + length rs) % 2 ^ 64) more
+lines-on n [] more h = let q : n ≡ (n + 0) % 2 ^ 64 = omega arith in ap (λ (m : ℕ). linesOf m more) q
+lines-on n (r ∷ rs) more h =
+    let line : List ℕ = lineTold (follows n) (judgeBy01 r) in
+    let q : (follows n + length rs) % 2 ^ 64 ≡ (n + suc (length rs)) % 2 ^ 64 = omega arith in
+    ap (λ (l : List ℕ). line ++ l) (lines-on (follows n) rs more (omega arith) ∙ ap (λ (m : ℕ). linesOf (follows n) rs ++ linesOf m more) q)
+    ∙ sym (append-assoc line (linesOf (follows n) rs) (linesOf ((n + suc (length rs)) % 2 ^ 64) more))
+
 pub record Printed (s : List ℕ) (at used n : ℕ) (out : List ℕ) (r : Scan) : Type 0 where
   pub handed : List (List ℕ)
   pub prints : r .out ≡ copied (linesOf n handed) out used
   pub uses : r .used ≡ used + length (linesOf n handed)
   pub fits : used + length (linesOf n handed) ≤ length out
-  pub in-order : records (drop at s) ≡ handed ++ records (drop (r .at) s)
-  pub leaves : left (drop at s) ≡ left (drop (r .at) s)
+  pub counts : n < 2 ^ 64 → r .n ≡ (n + length handed) % 2 ^ 64
+  pub within : at ≤ length s → r .at ≤ length s
+  -- whatever bytes of the capture follow those of the buffer
+  pub in-order : (a : List ℕ) → records (drop at s ++ a) ≡ handed ++ records (drop (r .at) s ++ a)
+  pub leaves : (a : List ℕ) → left (drop at s ++ a) ≡ left (drop (r .at) s ++ a)
 
 copied-length : (w out : List ℕ) (at : ℕ) → at + length w ≤ length out → length (copied w out at) ≡ length out
 copied-length w out at h =
@@ -44,8 +56,10 @@ nothing s at used n out full h = record {
   prints = sym (copied-is [] out used used (add-zero used) h ∙ ap (λ (l : List ℕ). l ++ drop used out) (append-nil (take used out)) ∙ take-append-drop used out);
   uses = omega arith;
   fits = omega arith;
-  in-order = refl;
-  leaves = refl;
+  counts = λ h. omega arith;
+  within = λ h. h;
+  in-order = λ a. refl;
+  leaves = λ a. refl;
 }
 
 -- behind a whole record the rest starts
@@ -60,7 +74,8 @@ one-more s at used n out r e h p =
     let w : List ℕ = lineAt s at n in
     let first : List ℕ = firstIn (drop at s) in
     let more : List ℕ = linesOf (follows n) (p .handed) in
-    let off = first-off (drop at s) e in
+    let off : (a : List ℕ) → Off (drop at s) a = λ a. first-off (drop at s) a e in
+    let there = is-whole (drop at s) e in
     let same = copied-length w out used h in
     let size = length-append w more in
     record {
@@ -68,8 +83,10 @@ one-more s at used n out r e h p =
       prints = p .prints ∙ copied-on w more out used (used + length w) refl (omega (arith, p .fits, same));
       uses = p .uses ∙ omega (arith, size);
       fits = omega (arith, p .fits, same, size);
-      in-order = off .records-off ∙ ap (λ (l : List ℕ). first ∷ records l) (rest-at s at) ∙ ap (λ (rs : List (List ℕ)). first ∷ rs) (p .in-order);
-      leaves = off .left-off ∙ ap left (rest-at s at) ∙ p .leaves;
+      counts = λ h. p .counts (omega arith) ∙ omega arith;
+      within = λ h. p .within (omega (arith, there .fits, word-drop s at, length-drop at s));
+      in-order = λ a. off a .records-off ∙ ap (λ (l : List ℕ). first ∷ records (l ++ a)) (rest-at s at) ∙ ap (λ (rs : List (List ℕ)). first ∷ rs) (p .in-order a);
+      leaves = λ a. off a .left-off ∙ ap (λ (l : List ℕ). left (l ++ a)) (rest-at s at) ∙ p .leaves a;
     }
 
 pub scan-prints : (k : ℕ) (s : List ℕ) (at used n : ℕ) (out : List ℕ) → used ≤ length out → Printed s at used n out (scanOf k s at used n out)
@@ -90,6 +107,17 @@ scan-prints (suc k) s at used n out h =
     go true true e f ih =
         let fits = leb-true (used + length (lineAt s at n)) (length out) f in
         one-more s at used n out on e fits (ih (omega (arith, copied-length (lineAt s at n) out used fits)))
+
+-- the output that is used is what stood there, and then the lines
+module _ (s : List ℕ) (at used n : ℕ) (out : List ℕ) (r : Scan) (h : used ≤ length out) (p : Printed s at used n out r) where
+  pub stands : take (r .used) (r .out) ≡ take used out ++ linesOf n (p .handed)
+  stands =
+      let w : List ℕ = linesOf n (p .handed) in
+      ap (λ (k : ℕ). take k (r .out)) (p .uses) ∙ ap (take (used + length w)) (p .prints ∙ copied-is w out used (used + length w) refl (p .fits))
+      ∙ take-at (take used out ++ w) (drop (used + length w) out) (used + length w) (length-append (take used out) w ∙ ap (λ (k : ℕ). k + length w) (length-take-le used out h))
+
+  pub room-left : r .used ≤ length (r .out)
+  room-left = omega (arith, p .uses, p .fits, ap length (p .prints), copied-length (linesOf n (p .handed)) out used (p .fits))
 
 -- a scan that is not full leaves no whole record, where it had as many turns as there are bytes
 pub scan-ends : (k : ℕ) (s : List ℕ) (at used n : ℕ) (out : List ℕ) → length s - at ≤ k → scanOf k s at used n out .full ≡ false → whole (drop (scanOf k s at used n out .at) s) ≡ false

@@ -100,8 +100,8 @@ pub record Put (w out : List ℕ) (at k : ℕ) : Type 0 where
   pub size : k ≡ length w
   pub fits : at + length w ≤ length out
 
-was-put : (w out after : List ℕ) (at k : ℕ) → Written.told (Bytes k) ≡ judged (ltb (length out) (at + length w) ⇒ BufferTooSmall ∷ []) (done (length w ∷ [])) → Put w out at k
-was-put w out after at k p =
+was-put : (w out : List ℕ) (at k : ℕ) → Written.told (Bytes k) ≡ judged (ltb (length out) (at + length w) ⇒ BufferTooSmall ∷ []) (done (length w ∷ [])) → Put w out at k
+was-put w out at k p =
     let cs = ltb (length out) (at + length w) ⇒ BufferTooSmall ∷ [] in
     let t = done (length w ∷ []) in
     record {
@@ -121,52 +121,77 @@ was-full w out at e p = go (ltb (length out) (at + length w)) refl
         let q : Refuse e ≡ Accept = sym (was-refused cs (done (length w ∷ [])) 1 e refl p) ∙ ap (λ (b : Bool). verdict (b ⇒ BufferTooSmall ∷ [])) f in
         absurd (let z : _≡_ {A = ℕ} 0 1 = cc in omega arith)
 
-module _ (k : ℕ) (s : List ℕ) (at used n : ℕ) (out : List ℕ) where
-  pub turn-short : NextPromise s at Short → scanOf k s at used n out ≡ stopped at used n out false
-  turn-short p = short k s at used n out (go (whole (drop at s)) refl p)
+pub turn-short : (k : ℕ) (s : List ℕ) (at used n : ℕ) (out : List ℕ) → NextPromise s at Short → scanOf k s at used n out ≡ stopped at used n out false
+turn-short k s at used n out p = short k s at used n out (go (whole (drop at s)) refl p)
+  where
+    go : (b : Bool) → whole (drop at s) ≡ b → Short ≡ cond b (Record (at + 2) (at + 2 + wordAt s at)) Short → whole (drop at s) ≡ false
+    go true e q = absurd (let z : _≡_ {A = ℕ} 0 1 = cc in omega arith)
+    go false e q = e
+
+-- a turn that has a record: what was named, told and counted of it, and what putting its line answered
+pub record Turn : Type 0 where
+  pub turns : ℕ
+  pub input : List ℕ
+  pub at : ℕ
+  pub used : ℕ
+  pub n : ℕ
+  pub out : List ℕ
+  pub start : ℕ
+  pub end : ℕ
+  pub next : ℕ
+  pub told-of : Judged
+  pub answer : Written
+  pub after : List ℕ
+  pub some : 1 ≤ turns
+  pub named : NextPromise input at (Record start end)
+  pub told-so : JudgePromise (partOf input start end) told-of
+  pub counted : next ≡ follows n
+  pub put : PutLinePromise next told-of used out answer after
+
+module _ (t : Turn) where
+  there : Named (t .input) (t .at) (t .start) (t .end)
+  there = names (t .input) (t .at) (t .start) (t .end) (t .named)
+
+  ends : t .end ≡ t .at + 2 + wordAt (t .input) (t .at)
+  ends = go (whole (drop (t .at) (t .input))) (there .is-there) (t .named)
     where
-      go : (b : Bool) → whole (drop at s) ≡ b → Short ≡ cond b (Record (at + 2) (at + 2 + wordAt s at)) Short → whole (drop at s) ≡ false
-      go true e q = absurd (let z : _≡_ {A = ℕ} 0 1 = cc in omega arith)
-      go false e q = e
+      go : (b : Bool) → b ≡ true → Record (t .start) (t .end) ≡ cond b (Record (t .at + 2) (t .at + 2 + wordAt (t .input) (t .at))) Short → t .end ≡ t .at + 2 + wordAt (t .input) (t .at)
+      go true e q = cc
+      go false e q = absurd (let z : _≡_ {A = ℕ} 0 1 = cc in omega arith)
 
-  module _ (start end next : ℕ) (j : Judged) (some : 1 ≤ k) (named : NextPromise s at (Record start end)) (told-so : JudgePromise (partOf s start end) j) (counted : next ≡ follows n) where
-    there : Named s at start end
-    there = names s at start end named
+  -- the line that is put is the record's
+  abbrev line : List ℕ
+  line = lineOf (t .next) (t .told-of)
 
-    ends : end ≡ at + 2 + wordAt s at
-    ends = go (whole (drop at s)) (there .is-there) named
-      where
-        go : (b : Bool) → b ≡ true → Record start end ≡ cond b (Record (at + 2) (at + 2 + wordAt s at)) Short → end ≡ at + 2 + wordAt s at
-        go true e q = cc
-        go false e q = absurd (let z : _≡_ {A = ℕ} 0 1 = cc in omega arith)
+  the-line : line ≡ lineAt (t .input) (t .at) (t .n)
+  the-line =
+      ap (lineTold (t .next)) (t .told-so ∙ ap judgeBy01 (there .datagram))
+      ∙ ap (λ (m : ℕ). lineTold m (judgeBy01 (firstIn (drop (t .at) (t .input))))) (t .counted)
 
-    -- the line that is put is the record's
-    the-line : lineOf next j ≡ lineAt s at n
-    the-line =
-        ap (lineTold next) (told-so ∙ ap judgeBy01 (there .datagram))
-        ∙ ap (λ (m : ℕ). lineTold m (judgeBy01 (firstIn (drop at s)))) counted
+  pub turn-full : (e : Refusal) → t .answer ≡ Refused e → scanOf (t .turns) (t .input) (t .at) (t .used) (t .n) (t .out) ≡ stopped (t .at) (t .used) (t .n) (t .after) true
+  turn-full e refused =
+      let none = was-full line (t .out) (t .used) e (ap Written.told (sym refused) ∙ t .put .0) in
+      let kept : t .after ≡ t .out = t .put .1 ∙ simp (lt-leb (t .used + length line) (length (t .out)) none) in
+      no-room (t .turns) (t .input) (t .at) (t .used) (t .n) (t .out) (t .some) (there .is-there) (omega (arith, ap length the-line))
+      ∙ ap (λ (l : List ℕ). stopped (t .at) (t .used) (t .n) l true) (sym kept)
 
-    pub turn-full : (e : Refusal) (after : List ℕ) → PutLinePromise next j used out (Refused e) after → scanOf k s at used n out ≡ stopped at used n after true
-    turn-full e after p =
-        let w : List ℕ = lineOf next j in
-        let none = was-full w out used e (p .0) in
-        let kept : after ≡ out = p .1 ∙ simp (lt-leb (used + length w) (length out) none) in
-        no-room k s at used n out some (there .is-there) (omega (arith, ap length the-line))
-        ∙ ap (λ (l : List ℕ). stopped at used n l true) (sym kept)
+  module _ (size : ℕ) (written : t .answer ≡ Bytes size) where
+    as-put : Put line (t .out) (t .used) size
+    as-put = was-put line (t .out) (t .used) size (ap Written.told (sym written) ∙ t .put .0)
 
-    pub turn-hands : (size : ℕ) (after : List ℕ) → PutLinePromise next j used out (Bytes size) after → scanOf k s at used n out ≡ scanOf (k - 1) s end (used + size) next after
-    turn-hands size after p =
-        let w : List ℕ = lineOf next j in
-        let put = was-put w out after used size (p .0) in
-        let long : length (lineAt s at n) ≡ size = ap length (sym the-line) ∙ sym (put .size) in
-        hands k s at used n out some (there .is-there) (omega (arith, put .fits, put .size))
-        ∙ ap (λ (e : ℕ). scanOf (k - 1) s e (used + length (lineAt s at n)) (follows n) (copied (lineAt s at n) out used)) (sym ends)
-        ∙ ap (λ (m : ℕ). scanOf (k - 1) s end (used + m) (follows n) (copied (lineAt s at n) out used)) long
-        ∙ ap (λ (m : ℕ). scanOf (k - 1) s end (used + size) m (copied (lineAt s at n) out used)) (sym counted)
-        ∙ ap (scanOf (k - 1) s end (used + size) next) (ap (λ (l : List ℕ). copied l out used) (sym the-line) ∙ sym (p .1))
+    pub turn-fits : t .used + size ≤ length (t .out)
+    turn-fits = omega (arith, as-put .fits, as-put .size)
 
-    pub turn-fits : (size : ℕ) (after : List ℕ) → PutLinePromise next j used out (Bytes size) after → used + size ≤ length out
-    turn-fits size after p = let put = was-put (lineOf next j) out after used size (p .0) in omega (arith, put .fits, put .size)
+    pub turn-hands : scanOf (t .turns) (t .input) (t .at) (t .used) (t .n) (t .out) ≡ scanOf (t .turns - 1) (t .input) (t .end) (t .used + size) (t .next) (t .after)
+    turn-hands =
+        let w : List ℕ = lineAt (t .input) (t .at) (t .n) in
+        let k : ℕ = t .turns - 1 in
+        let long : length w ≡ size = ap length (sym the-line) ∙ sym (as-put .size) in
+        hands (t .turns) (t .input) (t .at) (t .used) (t .n) (t .out) (t .some) (there .is-there) (omega (arith, as-put .fits, as-put .size))
+        ∙ ap (λ (e : ℕ). scanOf k (t .input) e (t .used + length w) (follows (t .n)) (copied w (t .out) (t .used))) (sym ends)
+        ∙ ap (λ (m : ℕ). scanOf k (t .input) (t .end) (t .used + m) (follows (t .n)) (copied w (t .out) (t .used))) long
+        ∙ ap (λ (m : ℕ). scanOf k (t .input) (t .end) (t .used + size) m (copied w (t .out) (t .used))) (sym (t .counted))
+        ∙ ap (scanOf k (t .input) (t .end) (t .used + size) (t .next)) (ap (λ (l : List ℕ). copied l (t .out) (t .used)) (sym the-line) ∙ sym (t .put .1))
 
 -- ---- no second answer
 

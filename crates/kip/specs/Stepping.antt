@@ -123,19 +123,27 @@ bound-any (suc k) n m s e h =
 
 -- ---- the first record, and none
 
-pub record Off (s : List ℕ) : Type 0 where
-  pub records-off : records s ≡ firstIn s ∷ records (restIn s)
-  pub left-off : left s ≡ left (restIn s)
-
-pub first-off : (s : List ℕ) → whole s ≡ true → Off s
+whole-off : (s : List ℕ) → whole s ≡ true → (records s ≡ firstIn s ∷ records (restIn s)) × (left s ≡ left (restIn s))
 unfolding recordsOf leftOf
-first-off s e =
+whole-off s e =
     let w = is-whole s e in
     let x = bound-more (length s) s (omega arith) in
     let y = bound-any (2 + wordAt s 0) (length (restIn s)) (length s) (restIn s) (omega (arith, length-drop (2 + wordAt s 0) s, w .fits)) (omega arith) in
+    (x .same-records ∙ rw e (ap (λ (rs : List (List ℕ)). firstIn s ∷ rs) (sym (y .same-records))), x .same-left ∙ rw e (sym (y .same-left)))
+
+-- whatever bytes a follow u
+pub record Off (u a : List ℕ) : Type 0 where
+  pub records-off : records (u ++ a) ≡ firstIn u ∷ records (restIn u ++ a)
+  pub left-off : left (u ++ a) ≡ left (restIn u ++ a)
+
+pub first-off : (u a : List ℕ) → whole u ≡ true → Off u a
+first-off u a e =
+    let w = is-whole u e in
+    let x = whole-off (u ++ a) (more-whole u a w) in
+    let rest = more-rest u a w in
     record {
-      records-off = x .same-records ∙ rw e (ap (λ (rs : List (List ℕ)). firstIn s ∷ rs) (sym (y .same-records)));
-      left-off = x .same-left ∙ rw e (sym (y .same-left));
+      records-off = x .0 ∙ ap (λ (l : List ℕ). l ∷ records (restIn (u ++ a))) (more-first u a w) ∙ ap (λ (l : List ℕ). firstIn u ∷ records l) rest;
+      left-off = x .1 ∙ ap left rest;
     }
 
 pub record Done (s : List ℕ) : Type 0 where
@@ -178,25 +186,21 @@ abbrev pub begun : List ℕ → Reading
 begun s = record { unread = []; ahead = s; handed = [] }
 
 -- what was handed on and what is still to come are the records of the whole
-record Kept (s : List ℕ) (r : Reading) : Type 0 where
-  to-come : records s ≡ r .handed ++ records (r .unread ++ r .ahead)
-  to-leave : left s ≡ left (r .unread ++ r .ahead)
+pub record Kept (s : List ℕ) (r : Reading) : Type 0 where
+  pub to-come : records s ≡ r .handed ++ records (r .unread ++ r .ahead)
+  pub to-leave : left s ≡ left (r .unread ++ r .ahead)
 
 hand-keeps : (s : List ℕ) (r : Reading) (b : Bool) → whole (r .unread) ≡ b → Kept s r → Kept s (handedOn b r)
 hand-keeps s r false e k = k
 hand-keeps s r true e k =
     let u : List ℕ = r .unread in
-    let w = is-whole u e in
-    let x = first-off (u ++ r .ahead) (more-whole u (r .ahead) w) in
-    let rest = more-rest u (r .ahead) w in
+    let x = first-off u (r .ahead) e in
     record {
-      to-come =
-          k .to-come ∙ ap (λ (rs : List (List ℕ)). r .handed ++ rs) (x .records-off ∙ ap (λ (l : List ℕ). l ∷ records (restIn (u ++ r .ahead))) (more-first u (r .ahead) w) ∙ ap (λ (l : List ℕ). firstIn u ∷ records l) rest)
-          ∙ sym (append-assoc (r .handed) (firstIn u ∷ []) (records (restIn u ++ r .ahead)));
-      to-leave = k .to-leave ∙ x .left-off ∙ ap left rest;
+      to-come = k .to-come ∙ ap (λ (rs : List (List ℕ)). r .handed ++ rs) (x .records-off) ∙ sym (append-assoc (r .handed) (firstIn u ∷ []) (records (restIn u ++ r .ahead)));
+      to-leave = k .to-leave ∙ x .left-off;
     }
 
-keeps : (s : List ℕ) (r : Reading) (m : Move) → Kept s r → Kept s (moved r m)
+pub keeps : (s : List ℕ) (r : Reading) (m : Move) → Kept s r → Kept s (moved r m)
 keeps s r Hand k = hand-keeps s r (whole (r .unread)) refl k
 keeps s r (Fill n) k =
     let same : r .unread ++ r .ahead ≡ r .unread ++ take n (r .ahead) ++ drop n (r .ahead) =
@@ -215,13 +219,17 @@ pub record HandedOn (s : List ℕ) (r : Reading) : Type 0 where
   pub all : r .handed ≡ records s
   pub cut : r .unread ≡ left s
 
-pub hands-on : (s : List ℕ) (ms : List Move) → ran (begun s) ms .ahead ≡ [] → whole (ran (begun s) ms .unread) ≡ false → HandedOn s (ran (begun s) ms)
-hands-on s ms empty short =
-    let r : Reading = ran (begun s) ms in
-    let k = keeps-all s (begun s) ms (record { to-come = refl; to-leave = refl }) in
+pub kept-ends : (s : List ℕ) (r : Reading) → Kept s r → r .ahead ≡ [] → whole (r .unread) ≡ false → HandedOn s r
+kept-ends s r k empty short =
     let over : r .unread ++ r .ahead ≡ r .unread = ap (λ (l : List ℕ). r .unread ++ l) empty ∙ append-nil (r .unread) in
     let d = none-off (r .unread) short in
     record {
       all = sym (k .to-come ∙ ap (λ (l : List ℕ). r .handed ++ records l) over ∙ ap (λ (rs : List (List ℕ)). r .handed ++ rs) (d .records-done) ∙ append-nil (r .handed));
       cut = sym (k .to-leave ∙ ap left over ∙ d .left-done);
     }
+
+pub begun-kept : (s : List ℕ) → Kept s (begun s)
+begun-kept s = record { to-come = refl; to-leave = refl }
+
+pub hands-on : (s : List ℕ) (ms : List Move) → ran (begun s) ms .ahead ≡ [] → whole (ran (begun s) ms .unread) ≡ false → HandedOn s (ran (begun s) ms)
+hands-on s ms = kept-ends s (ran (begun s) ms) (keeps-all s (begun s) ms (begun-kept s))

@@ -4,7 +4,7 @@ use native.Mathlib.Omega.{arith}
 use mathlib.Core.Path.{_≡_, ap, _∙_}
 use mathlib.Core.Logic.{⊎-elim}
 use lib.ListN.{length}
-use Rattle.digits.specs.Digits.{decimalIn, decimal}
+use Rattle.digits.specs.Digits.{decimalIn, decimal, tens}
 use Rattle.digits.specs.DigitLaws.{places-turn, enough-places, few-most}
 use borrow.Author.Needs.{needs}
 use Rattle.digits.proofs.places.Statement.{statement}
@@ -30,10 +30,11 @@ loop-less c =
     omega (arith, o .inv .0, o .inv .1)
 
 loop-again : tie.Need-loop-again Inv-loop μ-loop
+unfolding tens
 loop-again c =
     let o = c .before .before .loop in
     let q : 20 - o .count - 4 ≡ 20 - (o .count + 4) = omega arith in
-    let turn = places-turn (20 - o .count) (o .rest) (omega (arith, o .inv .0, o .inv .1)) (omega arith) ∙ ap (λ (k : ℕ). length (decimalIn k (o .rest / 10000)) + 4) q in
+    let turn = places-turn 4 (20 - o .count) (o .rest) (omega (arith, o .inv .0, o .inv .1)) (omega arith) ∙ ap (λ (k : ℕ). length (decimalIn k (o .rest / 10000)) + 4) q in
     (omega (arith, o .inv .0, o .inv .1), omega (arith, o .inv .1), omega (arith, o .inv .2, turn))
 
 few-places-requires : tie.Need-few-places-requires Inv-loop μ-loop
@@ -45,11 +46,12 @@ add-result c =
     omega (arith, o .inv .0, c .few-places .ensures, few-most (o .rest))
 
 returns : tie.Need-returns Inv-loop μ-loop
+unfolding tens
 returns c =
     let o = c .before .before .loop in
     let few = c .few-places .ensures in
     ⊎-elim
-    (λ w. omega (arith, o .inv .2, few, enough-places (20 - o .count) (o .rest) (omega (arith, o .inv .0)) (omega (arith, w .left))))
+    (λ w. omega (arith, o .inv .2, few, enough-places 3 (20 - o .count) (o .rest) (omega (arith, o .inv .0)) (omega (arith, w .left))))
     (λ w.
     let q : 20 - o .count ≡ 4 = omega (arith, w .1 .taken) in
     omega (arith, o .inv .2, few, ap (λ (k : ℕ). length (decimalIn k (o .rest))) q))

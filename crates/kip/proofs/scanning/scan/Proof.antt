@@ -8,8 +8,8 @@ use lib.ListN.{length}
 use Rattle.wire.specs.ToldLaws.{carried}
 use Rattle.kip.specs.Capture.{NextPromise}
 use Rattle.kip.specs.Judge.{JudgePromise}
-use Rattle.kip.specs.Scan.{scanOf, PutLinePromise}
-use Rattle.kip.specs.ScanLaws.{stopped, no-turn, turn-short, turn-full, turn-hands, turn-fits}
+use Rattle.kip.specs.Scan.{scanOf}
+use Rattle.kip.specs.ScanLaws.{Turn, stopped, no-turn, turn-short, turn-full, turn-hands, turn-fits}
 use borrow.Author.Needs.{needs}
 use Rattle.kip.proofs.scanning.scan.Statement.{statement}
 use Rattle.kip.proofs.scanning.scan.Tie as tie
@@ -50,23 +50,41 @@ enum-told-2 c = search needs
 enum-known-size : tie.Need-enum-known-size Inv-loop μ-loop
 enum-known-size c = search needs
 
+-- what a turn knows once its line was put, or refused
+abbrev turn : tie.After-put-line Inv-loop μ-loop → Turn
+turn c =
+    let s = c .before .before .before .before .before .before .before .before .before .before .before .before .before .args .input .now in
+    let o = c .before .before .before .before .before .before .before .before .before .before .loop in
+    let named = c .before .before .before .before .before .before .start .given in
+    let next = c .before .before .before .before .wrapping-add-u64 in
+    let part = c .before .before .before .part in
+    let j = c .before .before .judge in
+    record {
+      turns = o .turns;
+      input = s;
+      at = o .at;
+      used = o .used;
+      n = o .n;
+      out = o .out;
+      start = named .0 .0;
+      end = named .0 .1 .0;
+      next = next .result;
+      told-of = j .result;
+      answer = c .put-line .result;
+      after = c .put-line .last .1 .1 .0;
+      some = omega (arith, c .before .before .before .before .before .before .before .before .before .loop-test .taken);
+      named = carried (λ (k : ℕ). NextPromise s k) {a = o .at} refl (named .1) (c .before .before .before .before .before .before .before .before .next-record .ensures);
+      told-so = subst (λ (d : List ℕ). JudgePromise d (j .result)) (part .ensures) (j .ensures);
+      counted = next .ensures;
+      put = c .put-line .ensures;
+    }
+
 add-used : tie.Need-add-used Inv-loop μ-loop
 add-used c =
-    let s = c .before .before .before .before .before .before .before .before .before .before .before .before .before .before .before .before .before .before .args .input .now in
     let o = c .before .before .before .before .before .before .before .before .before .before .before .before .before .before .before .loop in
-    let test = c .before .before .before .before .before .before .before .before .before .before .before .before .before .before .loop-test in
-    let named = c .before .before .before .before .before .before .before .before .before .before .before .start .given in
-    let j = c .before .before .before .before .before .before .before .judge in
-    let part = c .before .before .before .before .before .before .before .before .part in
-    let next = c .before .before .before .before .before .before .before .before .before .wrapping-add-u64 in
-    let put = c .before .before .before .before .before .put-line in
-    let told-so = subst (λ (d : List ℕ). JudgePromise d (j .result)) (part .ensures) (j .ensures) in
-    let there = carried (λ (k : ℕ). NextPromise s k) {a = o .at} refl (named .1) (c .before .before .before .before .before .before .before .before .before .before .before .before .before .next-record .ensures) in
     let size = c .before .size .given in
-    let fits = turn-fits (o .turns) s (o .at) (o .used) (o .n) (o .out) (named .0 .0) (named .0 .1 .0) (next .result) (j .result) (omega (arith, test .taken)) there told-so (next .ensures) (size .0 .0) (put .last .1 .1 .0) (carried (λ (l : List ℕ) r. PutLinePromise (next .result) (j .result) (o .used) l r (put .last .1 .1 .0)) {a = o .out} refl (size .1) (put .ensures)) in
-    let same = o .inv .1 in
     let bounds = c .before .before .before .before .before .before .before .before .before .before .before .before .before .before .before .before .before .before .good in
-    omega (arith, fits, same, bounds .1 .0)
+    omega (arith, turn-fits (turn (c .before .before .before .before .before)) (size .0 .0) (size .1), o .inv .1, bounds .1 .0)
 
 sub-turns : tie.Need-sub-turns Inv-loop μ-loop
 sub-turns c = search needs
@@ -76,19 +94,9 @@ loop-less c = search needs
 
 loop-again : tie.Need-loop-again Inv-loop μ-loop
 loop-again c =
-    let s = c .before .before .before .before .before .before .before .before .before .before .before .before .before .before .before .before .before .before .args .input .now in
     let o = c .before .before .before .before .before .before .before .before .before .before .before .before .before .before .before .loop in
-    let test = c .before .before .before .before .before .before .before .before .before .before .before .before .before .before .loop-test in
-    let named = c .before .before .before .before .before .before .before .before .before .before .before .start .given in
-    let j = c .before .before .before .before .before .before .before .judge in
-    let part = c .before .before .before .before .before .before .before .before .part in
-    let next = c .before .before .before .before .before .before .before .before .before .wrapping-add-u64 in
-    let put = c .before .before .before .before .before .put-line in
-    let told-so = subst (λ (d : List ℕ). JudgePromise d (j .result)) (part .ensures) (j .ensures) in
-    let there = carried (λ (k : ℕ). NextPromise s k) {a = o .at} refl (named .1) (c .before .before .before .before .before .before .before .before .before .before .before .before .before .next-record .ensures) in
     let size = c .before .size .given in
-    let again = turn-hands (o .turns) s (o .at) (o .used) (o .n) (o .out) (named .0 .0) (named .0 .1 .0) (next .result) (j .result) (omega (arith, test .taken)) there told-so (next .ensures) (size .0 .0) (put .last .1 .1 .0) (carried (λ (l : List ℕ) r. PutLinePromise (next .result) (j .result) (o .used) l r (put .last .1 .1 .0)) {a = o .out} refl (size .1) (put .ensures)) in
-    (o .inv .0, search needs, o .inv .2 ∙ again)
+    (o .inv .0, search needs, o .inv .2 ∙ turn-hands (turn (c .before .before .before .before .before)) (size .0 .0) (size .1))
 
 same-length : tie.Need-same-length Inv-loop μ-loop
 same-length c = search needs
@@ -115,18 +123,9 @@ same-length-3 c = search needs
 
 returns-3 : tie.Need-returns-3 Inv-loop μ-loop
 returns-3 c =
-    let s = c .before .before .before .before .before .before .before .before .before .before .before .before .before .before .before .before .before .args .input .now in
     let o = c .before .before .before .before .before .before .before .before .before .before .before .before .before .before .loop in
-    let test = c .before .before .before .before .before .before .before .before .before .before .before .before .before .loop-test in
-    let named = c .before .before .before .before .before .before .before .before .before .before .start .given in
-    let j = c .before .before .before .before .before .before .judge in
-    let part = c .before .before .before .before .before .before .before .part in
-    let next = c .before .before .before .before .before .before .before .before .wrapping-add-u64 in
-    let put = c .before .before .before .before .put-line in
-    let told-so = subst (λ (d : List ℕ). JudgePromise d (j .result)) (part .ensures) (j .ensures) in
-    let there = carried (λ (k : ℕ). NextPromise s k) {a = o .at} refl (named .1) (c .before .before .before .before .before .before .before .before .before .before .before .before .next-record .ensures) in
     let full = c .enum-told2 .given in
-    sym (o .inv .2 ∙ turn-full (o .turns) s (o .at) (o .used) (o .n) (o .out) (named .0 .0) (named .0 .1 .0) (next .result) (j .result) (omega (arith, test .taken)) there told-so (next .ensures) (full .0 .0) (put .last .1 .1 .0) (carried (λ (l : List ℕ) r. PutLinePromise (next .result) (j .result) (o .used) l r (put .last .1 .1 .0)) {a = o .out} refl (full .1) (put .ensures)))
+    sym (o .inv .2 ∙ turn-full (turn (c .before .before .before .before)) (full .0 .0) (full .1))
 
 pub scan-spec : {M : Type 1} → statement M
 scan-spec =
