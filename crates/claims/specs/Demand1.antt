@@ -529,3 +529,14 @@ host-table-calls = CalledLaws.call-refusing
 -- kip::scan
 -- views::LDataFrame::data
 -- image::unpack
+-- digits::places
+-- digits::put_digits
+-- digits::hex_digit
+-- digits::hex4
+-- replay::refused
+-- replay::few
+-- replay::flag
+-- replay::written
+-- replay::line
+-- replay::number24
+-- replay::next

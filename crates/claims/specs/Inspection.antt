@@ -1,4 +1,4 @@
--- The inspection of a capture: stepping through it hands on its records, wherever its buffer is refilled, what the program's turns write is what 01 says, and 01's example, by computation. Assumes nothing.
+-- The inspection of a capture: stepping through it hands on its records, wherever its buffer is refilled, what the program's turns write is what 01 says, and 01's example, by computation.
 use Prim.Native.Nat.{ℕ, _^_, _≤_, _<_}
 use native.Mathlib.Omega.{arith}
 use mathlib.Core.Path.{_≡_, refl}

@@ -72,11 +72,18 @@ use Rattle.datagram.specs.HeardLaws as HeardLaws
 use Rattle.tunnel.specs.Rules as Rules
 use Rattle.tunnel.specs.declared.Tunnel.{Tunnel}
 use Rattle.tunnels.specs.Calls.{Call, Open, Close, Timeout, Send, Datagram}
+use Rattle.digits.specs.Digits as Digits
 use Rattle.kip.specs.Capture as Capture
 use Rattle.kip.specs.Judge as Judge
 use Rattle.kip.specs.JudgeLaws as JudgeLaws
 use Rattle.kip.specs.Line as Line
 use Rattle.kip.specs.LineLaws as LineLaws
+use Rattle.replay.specs.Telling as Telling
+use Rattle.replay.specs.Line as CallLine
+use Rattle.replay.specs.Laws as CallLaws
+use Rattle.replay.specs.Records as Records
+use Rattle.replay.specs.declared.records.Record.{Record}
+use Rattle.replay.specs.declared.telling.Told.{Told}
 use Rattle.table.specs.Table.{EmptyPromise, CallPromise}
 use Rattle.table.specs.Compiled as Compiled
 use Rattle.table.specs.declared.calls.Table.{Table}
@@ -652,6 +659,22 @@ table-datagram bytes out t = Compiled.call-one t (Datagram bytes out)
 
 -- ---- kip
 
+-- digits::places
+pub digits-places : One Digits.PlacesPromise
+digits-places n r q = same
+
+-- digits::put_digits
+pub digits-put-digits : (n : ℕ) (out : List ℕ) (at end : ℕ) (after later : List ℕ) → Digits.DigitsPromise n out at end after → Digits.DigitsPromise n out at end later → after ≡ later
+digits-put-digits n out at end after later = same
+
+-- digits::hex_digit
+pub digits-hex-digit : One Digits.HexDigitPromise
+digits-hex-digit d r q = same
+
+-- digits::hex4
+pub digits-hex4 : One Digits.HexPromise
+digits-hex4 n r q = same
+
 -- kip::starts
 pub kip-starts : One Capture.StartsPromise
 kip-starts s r q = same
@@ -782,3 +805,33 @@ host-table-send id cemi out image = CalledLaws.call-one image (Send id cemi out)
 -- host::knx_table_datagram
 pub host-table-datagram : (bytes out : List ℕ) → OneImage (Datagram bytes out)
 host-table-datagram bytes out image = CalledLaws.call-one image (Datagram bytes out)
+
+-- ---- replay: what the programs that replay recorded calls share; of a record that was read, which no contract can say, the buffer that is lent to its call
+
+-- replay::refused
+pub replay-refused : One₂ Telling.RefusedPromise
+replay-refused why count r q = same
+
+-- replay::few
+pub replay-few : One₂ Telling.FewPromise
+replay-few count four r q = same
+
+-- replay::flag
+pub replay-flag : One Telling.FlagPromise
+replay-flag b r q = same
+
+-- replay::written
+pub replay-written : One Telling.WrittenPromise
+replay-written w r q = same
+
+-- replay::line
+pub replay-line : (t : Told) (s out : List ℕ) (r q : ℕ) (after later : List ℕ) → CallLine.LinePromise t s out r after → CallLine.LinePromise t s out q later → (r ≡ q) × (after ≡ later)
+replay-line = CallLaws.line-one
+
+-- replay::number24
+pub replay-number24 : One Records.Number24Promise
+replay-number24 s r q = same
+
+-- replay::next
+pub replay-next : (r : Record) (args buf after later : List ℕ) → Records.NextPromise r args buf after → Records.NextPromise r args buf later → after ≡ later
+replay-next r args buf after later p q = same (p .filled) (q .filled)

@@ -8,9 +8,10 @@ use mathlib.Core.List.{List, [], _∷_, _++_, append-nil}
 use lib.ListN.{length, getD, take, drop, set, length-append}
 use lib.Seq.{take-suc-set, append-snoc, length-take-le}
 use borrow.Author.Tests.{le-leb, lt-leb, eq-eqb, ne-eqb, ltb-true}
+use Rattle.wire.specs.ToldLaws.{same}
 use Rattle.wire.specs.Layout.{copied}
 use Rattle.digits.specs.Digits.{decimal}
-use Rattle.replay.specs.Line.{Sheet, sheet, laid, all, pieces, PiecePromise, values, shown, pattern, touchedIn, touched, bytePieces, buffer, lineOf}
+use Rattle.replay.specs.Line.{Sheet, sheet, laid, all, pieces, PiecePromise, values, shown, pattern, touchedIn, touched, bytePieces, buffer, lineOf, LinePromise}
 use Rattle.replay.specs.declared.telling.Told.{Told}
 use Rattle.replay.specs.Records.{patternFrom, FillPromise, NextPromise}
 use Rattle.replay.specs.declared.records.Record.{Record}
@@ -139,3 +140,10 @@ a-record call n m args buf part h k p =
     let filled : part ++ drop m buf ≡ patternFrom m 0 ++ drop m buf = ap (λ (l : List ℕ). l ++ drop m buf) (p ∙ ap (λ (j : ℕ). patternFrom j 0) long) in
     let fits : m ≤ length (part ++ drop m buf) = (let x = ap length p ∙ pattern-length (length (take m buf)) 0 in omega (arith, length-append part (drop m buf))) in
     record { arguments = (h, sym (length-take-le n args h)); lends = (fits, sym (length-take-le m (part ++ drop m buf) fits)); filled = filled }
+
+-- ---- no second answer
+
+pub line-one : (t : Told) (s out : List ℕ) (r q : ℕ) (after later : List ℕ) → LinePromise t s out r after → LinePromise t s out q later → (r ≡ q) × (after ≡ later)
+line-one t s out r q after later a b =
+    let e = same a b in
+    (ap (λ (x : Sheet). x .at) e, ap (λ (x : Sheet). x .out) e)
