@@ -16,18 +16,19 @@ pub(crate) fn answer(call: u8, args: &[u8]) -> Told {
         31 => control1_new(args),
         32 => control1_default(),
         33 => control2_read(args),
-        _ => later_answer(call, args),
+        34 => control2_new(args),
+        35 => control2_default(),
+        _ => pci_answer(call, args),
     }
 }
 
-fn later_answer(call: u8, args: &[u8]) -> Told {
+fn pci_answer(call: u8, args: &[u8]) -> Told {
     match call {
-        34 => control2_new(args),
-        35 => control2_default(),
         36 => tpci_from(args),
         37 => apci_from(args),
         38 => apci_unknown(args),
-        _ => six_bits(args),
+        39 => six_bits(args),
+        _ => replay::few(0, [0; 4]),
     }
 }
 

@@ -25,7 +25,8 @@ fn connect_answer(call: u8, args: &[u8], buf: &mut [u8]) -> Told {
         18 => connect_calls::state_build(args, buf),
         19 => connect_calls::state_parse(args),
         20 => connect_calls::disconnect_build(args, buf),
-        _ => connect_calls::disconnect_parse(args),
+        21 => connect_calls::disconnect_parse(args),
+        _ => replay::few(0, [0; 4]),
     }
 }
 

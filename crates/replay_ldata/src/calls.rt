@@ -22,7 +22,8 @@ pub(crate) fn answer(call: u8, args: &[u8], buf: &mut [u8]) -> Told {
         42 => service_info(args),
         43 => as_ldata(args),
         44 => as_ldata_set(args),
-        _ => ldata_build(args, buf),
+        45 => ldata_build(args, buf),
+        _ => replay::few(0, [0; 4]),
     }
 }
 

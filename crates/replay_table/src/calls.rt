@@ -22,7 +22,11 @@ pub(crate) fn answer(call: u8, args: &[u8], buf: &mut [u8], table: Table) -> Car
         48 => called(table.close(id), false),
         49 => called(table.timeout(id), false),
         50 => called(table.send(id, wire::part(args, 1, args.len()), buf), true),
-        _ => called(table.datagram(args, buf), true),
+        51 => called(table.datagram(args, buf), true),
+        _ => Carried {
+            told: replay::few(0, [0; 4]),
+            table,
+        },
     }
 }
 

@@ -14,7 +14,8 @@ pub(crate) fn answer(call: u8, args: &[u8], buf: &mut [u8]) -> Told {
         24 => request_build(args, buf),
         25 => request_parse(args),
         26 => ack_build(args, buf),
-        _ => ack_parse(args),
+        27 => ack_parse(args),
+        _ => replay::few(0, [0; 4]),
     }
 }
 
