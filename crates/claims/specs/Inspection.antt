@@ -42,7 +42,7 @@ scan-ends = Printing.ends
 pub prints-so-far : (s out : List ℕ) (ms : List Step) → SoFar s (inspecting s out ms)
 prints-so-far = Inspects.prints-so-far
 
--- and when all is read and no whole record is left unread, as `scan-ends` has it, those of all its records, which are counted, and what is unread is the unfinished one
+-- and when all is read and no whole record is left unread, those of all its records, which are counted, and what is unread is the unfinished one
 pub prints-all : (s out : List ℕ) (ms : List Step) → inspecting s out ms .ahead ≡ [] → whole (unread (inspecting s out ms)) ≡ false → AtEnd s (inspecting s out ms)
 prints-all = Inspects.prints-all
 
@@ -50,6 +50,10 @@ prints-all = Inspects.prints-all
 pub inspects : (s out : List ℕ) (ms : List Step) → length (records s) < 2 ^ 64 → inspecting s out ms .ahead ≡ [] → whole (unread (inspecting s out ms)) ≡ false
     → output (inspecting s out ms) ≡ inspectedBy01 s
 inspects = Inspects.inspects
+
+-- the last scan, which did not stop for want of room, leaves no whole record
+pub scan-empties : (i : Inspecting) → scanOf (length (i .buffer)) (i .buffer) (i .spot .at) (i .spot .used) (i .spot .n) (i .out) .full ≡ false → whole (unread (stepped i ScanOn)) ≡ false
+scan-empties = Inspects.scan-empties
 
 -- a call of `scan` is such a turn, and what a call of `ending` wrote is that ending
 pub scan-steps : (i : Inspecting) (r : Scanned) (after : List ℕ) → ScanPromise (i .buffer) (i .out) (i .spot) r after

@@ -1,5 +1,5 @@
 -- The inspection of a capture, as the program goes about it: it scans its buffer, writes out what is gathered, moves what is left to the front and reads on, in any order and at any moment. All that it writes are the lines of the capture's records, in order, each once, and their ending. Assumes nothing.
-use Prim.Native.Nat.{ℕ, _+_, _-_, _%_, _^_, _<_, _≤_}
+use Prim.Native.Nat.{ℕ, suc, _+_, _-_, _%_, _^_, _<_, _≤_}
 use native.Mathlib.Omega.{arith}
 use mathlib.Core.Path.{_≡_, refl, sym, ap, subst, _∙_}
 use mathlib.Core.Bool.{Bool, false}
@@ -12,10 +12,11 @@ use Rattle.wire.specs.Written.{room}
 use Rattle.wire.specs.WrittenLaws.{wrote}
 use Rattle.wire.specs.declared.refusals.Written.the-variants.{Bytes}
 use Rattle.kip.specs.Capture.{whole, records, left}
-use Rattle.kip.specs.Line.{endingOf, EndingPromise}
+use Rattle.kip.specs.Judge.{judgeBy01}
+use Rattle.kip.specs.Line.{lineTold, endingOf, EndingPromise}
 use Rattle.kip.specs.Stepping.{Reading, Fill, Kept, keeps, kept-ends, begun-kept}
-use Rattle.kip.specs.Scan.{Scan, scanOf, ScanPromise}
-use Rattle.kip.specs.Printed.{linesOf, lines-on, scan-prints, stands, room-left}
+use Rattle.kip.specs.Scan.{Scan, follows, scanOf, ScanPromise}
+use Rattle.kip.specs.Printed.{linesOf, lines-on, scan-prints, scan-ends, stands, room-left}
 use Rattle.kip.specs.declared.scanning.Spot.{Spot}
 use Rattle.kip.specs.declared.scanning.Scanned.{Scanned}
 
@@ -71,9 +72,14 @@ inspecting s out ms = ran (begun s out) ms
 abbrev pub output : Inspecting → List ℕ
 output i = i .written ++ gathered i ++ endingOf (i .spot .n) (ltb (i .spot .at) (length (i .buffer)))
 
+-- the lines of records, numbered one after the other
+abbrev pub lines : ℕ → List (List ℕ) → List ℕ
+lines n [] = []
+lines n (r ∷ rs) = lineTold (suc n) (judgeBy01 r) ++ lines (suc n) rs
+
 -- what is to be written of a capture: the lines of its records, their count, and `cut` where something is left
 abbrev pub inspectedBy01 : List ℕ → List ℕ
-inspectedBy01 s = linesOf 0 (records s) ++ endingOf (length (records s)) (ltb 0 (length (left s)))
+inspectedBy01 s = lines 0 (records s) ++ endingOf (length (records s)) (ltb 0 (length (left s)))
 
 -- ---- the calls of the code are those turns
 
@@ -86,6 +92,10 @@ ending-writes n cut out k after p =
     let w : List ℕ = endingOf n cut in
     let x = wrote (room (length w) (length out) ∷ []) w out k after p in
     ap (take k) (x .bytes) ∙ take-at w (drop (length w) out) k (sym (x .count))
+
+-- where such a scan did not stop for want of room, no whole record is left
+pub scan-empties : (i : Inspecting) → scanOf (length (i .buffer)) (i .buffer) (i .spot .at) (i .spot .used) (i .spot .n) (i .out) .full ≡ false → whole (unread (stepped i ScanOn)) ≡ false
+scan-empties i = scan-ends (length (i .buffer)) (i .buffer) (i .spot .at) (i .spot .used) (i .spot .n) (i .out) (omega arith)
 
 -- ---- at any moment
 
@@ -169,6 +179,13 @@ prints-all s out ms empty short =
       cut = x .cut;
     }
 
+-- fewer records than 64 bits count are numbered one after the other
+lines-count : (n : ℕ) (rs : List (List ℕ)) → n + length rs < 2 ^ 64 → linesOf n rs ≡ lines n rs
+lines-count n [] h = refl
+lines-count n (r ∷ rs) h =
+    let next : follows n ≡ suc n = omega arith in
+    ap (λ (m : ℕ). lineTold m (judgeBy01 r) ++ linesOf m rs) next ∙ ap (λ (l : List ℕ). lineTold (suc n) (judgeBy01 r) ++ l) (lines-count (suc n) rs (omega arith))
+
 pub inspects : (s out : List ℕ) (ms : List Step) → length (records s) < 2 ^ 64 → inspecting s out ms .ahead ≡ [] → whole (unread (inspecting s out ms)) ≡ false
     → output (inspecting s out ms) ≡ inspectedBy01 s
 inspects s out ms few empty short =
@@ -177,6 +194,6 @@ inspects s out ms few empty short =
     let n : i .spot .n ≡ length (records s) = omega (arith, x .counted) in
     let long : length (i .buffer) - i .spot .at ≡ length (left s) = sym (length-drop (i .spot .at) (i .buffer)) ∙ ap length (x .cut) in
     let cut : ltb (i .spot .at) (length (i .buffer)) ≡ ltb 0 (length (left s)) = same-test (i .spot .at) (length (i .buffer)) 0 (length (left s)) (λ h. omega arith) (λ h. omega arith) in
-    ap (λ (l : List ℕ). l ++ endingOf (i .spot .n) (ltb (i .spot .at) (length (i .buffer)))) (x .all)
-    ∙ ap (λ (m : ℕ). linesOf 0 (records s) ++ endingOf m (ltb (i .spot .at) (length (i .buffer)))) n
-    ∙ ap (λ (c : Bool). linesOf 0 (records s) ++ endingOf (length (records s)) c) cut
+    ap (λ (l : List ℕ). l ++ endingOf (i .spot .n) (ltb (i .spot .at) (length (i .buffer)))) (x .all ∙ lines-count 0 (records s) (omega arith))
+    ∙ ap (λ (m : ℕ). lines 0 (records s) ++ endingOf m (ltb (i .spot .at) (length (i .buffer)))) n
+    ∙ ap (λ (c : Bool). lines 0 (records s) ++ endingOf (length (records s)) c) cut
