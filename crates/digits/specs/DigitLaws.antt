@@ -5,11 +5,12 @@ use native.Mathlib.Nat.{div-one, div-div-eq-div-mul}
 use mathlib.Core.Path.{_≡_, refl, sym, ap, _∙_}
 use mathlib.Core.Bool.{Bool, true, false, cond}
 use mathlib.Core.List.{List, [], _∷_, _++_, append-assoc, append-nil}
-use lib.Dec.{eqb, ltb, leb}
+use lib.Dec.{eqb, ltb}
 use lib.ListN.{length, take, drop, set, length-append, take-append-drop}
 use lib.Seq.{append-snoc, set-split, drop-at, length-take-le, take-set-le}
 use borrow.Author.Tests.{ne-eqb, eqb-true, eqb-false, lt-ltb, le-ltb, lt-leb, ltb-true, ltb-false}
 use Rattle.wire.specs.Layout.{copied, CopyPromise}
+use Rattle.wire.specs.LayoutLaws.{copied-nothing}
 use Rattle.digits.specs.Digits.{digitsOf, decimalIn, decimal, lastDigits, DigitsPromise, hexDigit, readFrom, tens, hexValue}
 
 -- ---- how many there are
@@ -168,13 +169,6 @@ pub digits-stand : (out : List ℕ) (at rest : ℕ) → standing out at at rest 
 digits-stand out at rest = let z : at - at ≡ 0 = omega arith in rw z (ap (λ (l : List ℕ). l ++ drop at out) (append-nil (take at out)) ∙ take-append-drop at out)
 
 -- digits that do not fit, or none, leave the output as it is
-copied-nothing : (out : List ℕ) (at : ℕ) → copied [] out at ≡ out
-copied-nothing out at = go (leb (at + 0) (length out))
-  where
-    go : (b : Bool) → cond b (take at out ++ [] ++ drop (at + 0) out) out ≡ out
-    go true = let z : at + 0 ≡ at = omega arith in rw (z, append-nil (take at out)) (take-append-drop at out)
-    go false = refl
-
 pub none-stored : (out : List ℕ) (n at end : ℕ) → end < at → out ≡ copied (lastDigits (end - at) n) out at
 none-stored out n at end h =
     let z : end - at ≡ 0 = omega arith in

@@ -1,5 +1,4 @@
 // The line of what a call told. A piece that does not fit is left out, and the line then differs from the one expected.
-ghost use mathlib.Core.Path.{_≡_};
 ghost use Rattle.digits.specs.Digits.{decimal};
 ghost use Rattle.replay.specs.Line as Line;
 use crate::telling::Told;

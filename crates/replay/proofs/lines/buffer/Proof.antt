@@ -1,5 +1,4 @@
 -- The pieces of a buffer, one behind the other. Assumes nothing.
-use Prim.Native.Nat.{_+_}
 use native.Mathlib.Omega.{arith}
 use lib.ListN.{length}
 use Rattle.replay.specs.Line.{sheet}

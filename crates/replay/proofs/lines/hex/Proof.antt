@@ -1,7 +1,7 @@
 -- The two digits of a byte are one piece. Assumes nothing.
 use Prim.Native.Nat.{ℕ, _/_, _%_}
 use Rattle.digits.specs.Digits.{hexDigit}
-use mathlib.Core.Path.{subst, sym, ap, _∙_}
+use mathlib.Core.Path.{subst, ap, _∙_}
 use mathlib.Core.List.{List, [], _∷_}
 use Rattle.replay.specs.Line.{PiecePromise}
 use borrow.Author.Needs.{needs}

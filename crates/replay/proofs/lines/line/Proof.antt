@@ -1,8 +1,7 @@
 -- The pieces of a line, one behind the other. Assumes nothing.
-use Prim.Native.Nat.{ℕ}
-use mathlib.Core.Path.{refl, sym, ap, _∙_}
+use mathlib.Core.Path.{sym, ap, _∙_}
 use mathlib.Core.Bool.{Bool, cond}
-use mathlib.Core.List.{List, []}
+use mathlib.Core.List.{[]}
 use Rattle.replay.specs.Line.{sheet, all, buffer}
 use Rattle.replay.specs.Laws.{lined}
 use borrow.Author.Needs.{needs}
