@@ -1,7 +1,7 @@
 // The compared calls of cemi.rs, of the stand-in's codes and of 01's L_Data builder; their rows
 // are in calls.rs.
 
-use crate::calls::{place, said, u16_at, Said};
+use crate::calls::{handed_out, place, remainder, said, u16_at, Said};
 use crate::error::KnxError;
 use crate::ldata_builder::LDataBuilder;
 use crate::protocol::cemi::{
@@ -180,11 +180,19 @@ pub fn frame_parse(args: &[u8], _: &mut [u8]) -> Said {
 }
 
 pub fn frame_service_info(args: &[u8], _: &mut [u8]) -> Said {
-    said(CEMIFrame::parse(args).and_then(|frame| Ok(place(frame.service_info()?, args).into())))
+    said(CEMIFrame::parse(args).and_then(|frame| Ok(handed_out(frame.service_info()?, args).into())))
+}
+
+/// What call 40 tells of the fields and the data, and the data's remainder.
+fn inside_values(frame: &CEMIFrame, whole: &[u8]) -> Result<Vec<usize>, KnxError> {
+    let ldata = frame.as_ldata()?;
+    let mut values = ldata_values(&ldata, whole);
+    values.push(remainder(ldata.data));
+    Ok(values)
 }
 
 pub fn frame_as_ldata(args: &[u8], _: &mut [u8]) -> Said {
-    said(CEMIFrame::parse(args).and_then(|frame| Ok(ldata_values(&frame.as_ldata()?, args))))
+    said(CEMIFrame::parse(args).and_then(|frame| inside_values(&frame, args)))
 }
 
 /// The frame's public code is set by hand before it is read.
@@ -193,7 +201,7 @@ pub fn frame_as_ldata_by(args: &[u8], _: &mut [u8]) -> Said {
     let code = CEMIMessageCode::from_u8(code)?;
     said(CEMIFrame::parse(input).and_then(|mut frame| {
         frame.message_code = code;
-        let mut values = ldata_values(&frame.as_ldata()?, input);
+        let mut values = inside_values(&frame, input)?;
         values.push(frame.is_ldata().into());
         Ok(values)
     }))

@@ -1,6 +1,6 @@
 // The compared calls of services.rs; their rows are in calls.rs.
 
-use crate::calls::{count, hpai_of, hpai_values, place, said, Said};
+use crate::calls::{count, handed_out, hpai_of, hpai_values, said, Said};
 use crate::protocol::services::{
     ConnectRequest, ConnectResponse, ConnectionHeader, ConnectionRequestInfo,
     ConnectionStateRequest, ConnectionStateResponse, DisconnectRequest, DisconnectResponse,
@@ -105,7 +105,7 @@ pub fn tunneling_request_build(args: &[u8], buf: &mut [u8]) -> Said {
 pub fn tunneling_request_parse(args: &[u8], _: &mut [u8]) -> Said {
     said(TunnelingRequest::parse(args).map(|request| {
         let mut values = connection_header_values(&request.connection_header);
-        values.extend(place(request.cemi_data, args));
+        values.extend(handed_out(request.cemi_data, args));
         values
     }))
 }

@@ -537,6 +537,7 @@ host-table-calls = CalledLaws.call-refusing
 -- replay::few
 -- replay::flag
 -- replay::written
+-- replay::remainder
 -- replay::line
 -- replay::number24
 -- replay::next

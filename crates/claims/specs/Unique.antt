@@ -824,6 +824,10 @@ replay-flag b r q = same
 pub replay-written : One Telling.WrittenPromise
 replay-written w r q = same
 
+-- replay::remainder
+pub replay-remainder : One Telling.RemainderPromise
+replay-remainder s r q = same
+
 -- replay::line
 pub replay-line : (t : Told) (s out : List ℕ) (r q : ℕ) (after later : List ℕ) → CallLine.LinePromise t s out r after → CallLine.LinePromise t s out q later → (r ≡ q) × (after ≡ later)
 replay-line = CallLaws.line-one

@@ -1,16 +1,17 @@
 -- Pieces one behind the other, and the loops that lay them. Assumes nothing.
-use Prim.Native.Nat.{ℕ, zero, suc, _+_, _-_, _<_, _≤_}
+use Prim.Native.Nat.{ℕ, zero, suc, _+_, _-_, _*_, _%_, _<_, _≤_}
 use native.Mathlib.Omega.{arith}
 use mathlib.Core.Path.{_≡_, refl, sym, ap, subst, _∙_}
 use mathlib.Core.Bool.{Bool, true, false, cond}
 use lib.Dec.{eqb, ltb}
 use mathlib.Core.List.{List, [], _∷_, _++_, append-nil}
-use lib.ListN.{length, getD, take, drop, set, length-append}
-use lib.Seq.{take-suc-set, append-snoc, length-take-le}
+use lib.ListN.{length, getD, take, drop, set, length-append, drop-of-length-le}
+use lib.Seq.{take-suc-set, append-snoc, length-take-le, drop-cons}
 use borrow.Author.Tests.{le-leb, lt-leb, eq-eqb, ne-eqb, ltb-true}
 use Rattle.wire.specs.ToldLaws.{same}
 use Rattle.wire.specs.Layout.{copied}
 use Rattle.digits.specs.Digits.{decimal}
+use Rattle.replay.specs.Telling.{remainderFrom}
 use Rattle.replay.specs.Line.{Sheet, sheet, laid, all, pieces, PiecePromise, values, shown, pattern, touchedIn, touched, bytePieces, buffer, lineOf, LinePromise}
 use Rattle.replay.specs.declared.telling.Told.{Told}
 use Rattle.replay.specs.Records.{patternFrom, FillPromise, NextPromise}
@@ -125,6 +126,18 @@ fill-turn s i h =
 pub none-more : (s : List ℕ) (n i : ℕ) → n ≤ i → s ++ patternFrom (n - i) i ≡ s
 unfolding patternFrom
 none-more s n i h = let z : n - i ≡ 0 = omega arith in ap (λ (k : ℕ). s ++ patternFrom k i) z ∙ append-nil s
+
+-- ---- the remainder of a part
+
+pub remainder-turn : (s : List ℕ) (i rest : ℕ) → i < length s → remainderFrom ((rest * 256 + getD s i 0) % 65521) (drop (i + 1) s) ≡ remainderFrom rest (drop i s)
+unfolding remainderFrom
+remainder-turn s i rest h =
+    let a : i + 1 ≡ suc i = omega arith in
+    ap (λ (k : ℕ). remainderFrom ((rest * 256 + getD s i 0) % 65521) (drop k s)) a ∙ ap (remainderFrom rest) (sym (drop-cons s i 0 h))
+
+pub remainder-done : (s : List ℕ) (i rest : ℕ) → length s ≤ i → remainderFrom rest (drop i s) ≡ rest
+unfolding remainderFrom
+remainder-done s i rest h = ap (remainderFrom rest) (drop-of-length-le s {i = i} h)
 
 -- ---- a record
 

@@ -1,5 +1,5 @@
 -- What a call told, as it is handed to its line: a number of 01, and values. Assumes nothing.
-use Prim.Native.Nat.{ℕ}
+use Prim.Native.Nat.{ℕ, _+_, _*_, _%_}
 use mathlib.Core.Path.{_≡_}
 use mathlib.Core.Bool.{Bool, true, false, cond}
 use mathlib.Core.List.{List, [], _∷_}
@@ -41,3 +41,11 @@ writing (Refused why) = lent (refusal why 1)
 
 abbrev pub WrittenPromise : Written → Told → Type 0
 WrittenPromise w r = r ≡ writing w
+
+-- the bytes of a part as one number, behind what was read of it, by 65,521
+unfoldable pub remainderFrom : ℕ → List ℕ → ℕ
+remainderFrom rest [] = rest
+remainderFrom rest (x ∷ s) = remainderFrom ((rest * 256 + x) % 65521) s
+
+abbrev pub RemainderPromise : List ℕ → ℕ → Type 0
+RemainderPromise s r = r ≡ remainderFrom 0 s

@@ -11,4 +11,5 @@ pub use telling::Told;
 pub use telling::few;
 pub use telling::flag;
 pub use telling::refused;
+pub use telling::remainder;
 pub use telling::written;

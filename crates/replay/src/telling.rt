@@ -1,6 +1,6 @@
 // What a call told.
 ghost use mathlib.Core.Path.{_≡_};
-ghost use Rattle.replay.specs.Telling.{RefusedPromise, FewPromise, FlagPromise, lent, WrittenPromise};
+ghost use Rattle.replay.specs.Telling.{RefusedPromise, FewPromise, FlagPromise, lent, WrittenPromise, RemainderPromise};
 use wire::Refusal;
 use wire::Written;
 
@@ -78,4 +78,17 @@ fn lending(t: Told) -> Told
         values,
         lends: true,
     }
+}
+
+// A part as one number, of which the remainder is told: the bytes of a part that was handed out, not only where it stands.
+pub fn remainder(part: &[u8]) -> usize
+    ensures { λ r. ⌜ RemainderPromise (now (part .entry)) r ⌝ }
+{
+    let mut rest: usize = 0;
+    let mut i = 0;
+    while i < part.len() {
+        rest = (rest * 256 + wire::byte_at(part, i) as usize) % 65521;
+        i += 1;
+    }
+    rest
 }

@@ -89,11 +89,11 @@ fn header_body_length(args: &[u8]) -> Told {
 fn frame_parse(args: &[u8]) -> Told {
     match FrameFields::parse(args) {
         FrameAnswer::Frame(f) => frame(f, args),
-        FrameAnswer::Refused(why) => replay::refused(why, 9),
+        FrameAnswer::Refused(why) => replay::refused(why, 11),
     }
 }
 
-// What the four accessors tell of a frame that was parsed.
+// What the accessors tell of a frame that was parsed, and the parts that they hand out.
 fn frame(f: FrameFields, args: &[u8]) -> Told {
     let mut t = frame_header(f.header(args));
     let s = service_from_answer(f.service_type(args));
@@ -102,15 +102,17 @@ fn frame(f: FrameFields, args: &[u8]) -> Told {
     t.values[4] = s;
     t.values[5] = body.start;
     t.values[6] = body.end;
-    t.values[7] = data.start;
-    t.values[8] = data.end;
+    t.values[7] = replay::remainder(f.body_part(args));
+    t.values[8] = data.start;
+    t.values[9] = data.end;
+    t.values[10] = replay::remainder(f.data_part(args));
     t
 }
 
 fn frame_header(a: HeaderAnswer) -> Told {
     match a {
-        HeaderAnswer::Header(h) => header(h, 9),
-        HeaderAnswer::Refused(why) => replay::refused(why, 9),
+        HeaderAnswer::Header(h) => header(h, 11),
+        HeaderAnswer::Refused(why) => replay::refused(why, 11),
     }
 }
 

@@ -116,35 +116,41 @@ fn cemi(f: CEMIFrame, args: &[u8]) -> Told {
 
 fn service_info(args: &[u8]) -> Told {
     match CEMIFrame::parse(args) {
-        CEMIAnswer::Frame(f) => shown(f.service_info(args)),
-        CEMIAnswer::Refused(why) => replay::refused(why, 2),
+        CEMIAnswer::Frame(f) => shown(f, args),
+        CEMIAnswer::Refused(why) => replay::refused(why, 3),
     }
 }
 
-fn shown(view: wire::View) -> Told {
-    let mut t = replay::few(2, [view.start, view.end, 0, 0]);
+fn shown(f: CEMIFrame, args: &[u8]) -> Told {
+    let view = f.service_info(args);
+    let rest = replay::remainder(f.service_info_part(args));
+    let mut t = replay::few(3, [view.start, view.end, rest, 0]);
     t.number = view.number;
     t
 }
 
 fn as_ldata(args: &[u8]) -> Told {
     match CEMIFrame::parse(args) {
-        CEMIAnswer::Frame(f) => inside(f, args, 11),
-        CEMIAnswer::Refused(why) => replay::refused(why, 11),
+        CEMIAnswer::Frame(f) => inside(f, args, 12),
+        CEMIAnswer::Refused(why) => replay::refused(why, 12),
     }
 }
 
-// The L_Data frame in a cEMI frame; its data is found in the part that holds it.
+// The L_Data frame in a cEMI frame, and the data that it hands out; its data is found in the part that holds it.
 fn inside(f: CEMIFrame, args: &[u8], count: usize) -> Told {
     match f.as_ldata(args) {
         LDataAnswer::Frame(l) => {
             let info = f.service_info(args);
-            let view = l.data(f.service_info_part(args));
-            fields(
+            let part = f.service_info_part(args);
+            let view = l.data(part);
+            let mut t = fields(
                 l,
                 moved(info.start, view.start),
                 moved(info.start, view.end),
-            )
+            );
+            t.count = 12;
+            t.values[11] = replay::remainder(l.data_part(part));
+            t
         }
         LDataAnswer::Refused(why) => replay::refused(why, count),
     }
@@ -160,20 +166,20 @@ fn moved(start: usize, at: usize) -> usize {
     0
 }
 
-// The record's code is set by hand; a code that is not known leaves the frame's own. Whether it is L_Data stands behind the eleven values.
+// The record's code is set by hand; a code that is not known leaves the frame's own. Whether it is L_Data stands behind the twelve values.
 fn as_ldata_set(args: &[u8]) -> Told {
     let whole = wire::part(args, 1, args.len());
     match CEMIFrame::parse(whole) {
         CEMIAnswer::Frame(f) => set(with_code(f, wire::byte_at(args, 0)), whole),
-        CEMIAnswer::Refused(why) => replay::refused(why, 12),
+        CEMIAnswer::Refused(why) => replay::refused(why, 13),
     }
 }
 
 fn set(f: CEMIFrame, whole: &[u8]) -> Told {
-    let mut t = inside(f, whole, 12);
+    let mut t = inside(f, whole, 13);
     if t.number == 0 {
-        t.count = 12;
-        t.values[11] = replay::flag(f.is_ldata());
+        t.count = 13;
+        t.values[12] = replay::flag(f.is_ldata());
     }
     t
 }

@@ -42,13 +42,15 @@ fn request_build(args: &[u8], buf: &mut [u8]) -> Told {
 fn request_parse(args: &[u8]) -> Told {
     match TunnelingRequest::parse(args) {
         TunnelingRequestAnswer::Request(q) => request(q, args),
-        TunnelingRequestAnswer::Refused(why) => replay::refused(why, 4),
+        TunnelingRequestAnswer::Refused(why) => replay::refused(why, 5),
     }
 }
 
 fn request(q: TunnelingRequest, args: &[u8]) -> Told {
     let view = q.cemi_data(args);
-    told(q.connection_header, 4, view.start, view.end)
+    let mut t = told(q.connection_header, 5, view.start, view.end);
+    t.values[4] = replay::remainder(q.cemi_part(args));
+    t
 }
 
 fn ack_build(args: &[u8], buf: &mut [u8]) -> Told {
