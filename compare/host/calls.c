@@ -1,5 +1,6 @@
 /* Every function of include/knx.h, called from C. The expected bytes and numbers are typed from document 01
- * and the KNX documents. Each call's arguments differ, so that a declaration with two of them swapped fails. */
+ * and the KNX documents. Each call's arguments differ, so that a declaration with two of them swapped fails;
+ * compare/host/swaps tries every two. */
 #include "knx.h"
 
 #include <stdio.h>
@@ -17,6 +18,9 @@ static void check(int holds, const char *what, int line) {
 }
 
 #define CHECK(holds) check((holds), #holds, __LINE__)
+
+/* A length that a declaration with one or two bytes for it would make 0 of. */
+enum { LONG = 65536 };
 
 /* A buffer that is lent: filled with a pattern before the call. */
 static uint8_t out[70000];
@@ -122,13 +126,15 @@ static int wrote(KnxWritten w, const uint8_t *bytes, size_t n) { return w.number
 
 static int refused(KnxWritten w, unsigned number) { return w.number == number && w.count == 0 && untouched(); }
 
-static const KnxEndpoint control = {{192, 168, 1, 10}, 3671};
-static const KnxEndpoint data = {{10, 0, 0, 7}, 50000};
+static const KnxEndpoint control = {.address = {192, 168, 1, 10}, .port = 3671};
+static const KnxEndpoint data = {.address = {10, 0, 0, 7}, .port = 50000};
+
+/* Too large for an L_Data frame from 254 bytes on, for a tunnelling request from 65526 on. */
+static const uint8_t large[LONG];
 
 static void ldatas(void) {
-    static const uint8_t large[254];
     fill();
-    CHECK(wrote(knx_ldata_build(0xBC, 0xD0, 0x1234, 0x5678, 0x54, 0x3C0, 0x2A, LENT(1, 2, 3), out, sizeof out),
+    CHECK(wrote(knx_ldata_build(0xBC, 0xD0, 0x1234, 0x5678, 0x54, 0x3C0, 0x2A, LENT(1, 2, 3), out, LONG),
                 LENT(0xBC, 0xD0, 0x12, 0x34, 0x56, 0x78, 0x05, 0x57, 0xEA, 1, 2, 3)));
     fill();
     CHECK(wrote(knx_ldata_build(0x94, 0xE0, 0x1105, 0x0803, 0x00, 0x080, 0, LENT(0x2A), out, 10),
@@ -139,7 +145,8 @@ static void ldatas(void) {
     CHECK(refused(knx_ldata_build(0x94, 0xE0, 0x1105, 0x0803, 0x00, 0x400, 0, LENT(0x2A), out, 9), 13));
     CHECK(refused(knx_ldata_build(0x94, 0xE0, 0x1105, 0x0803, 0x00, 0x081, 0, LENT(0x2A), out, 9), 13));
     CHECK(refused(knx_ldata_build(0x94, 0xE0, 0x1105, 0x0803, 0x00, 0x080, 64, LENT(0x2A), out, 9), 13));
-    CHECK(refused(knx_ldata_build(0x94, 0xE0, 0x1105, 0x0803, 0x00, 0x080, 0, large, sizeof large, out, 9), 5));
+    CHECK(refused(knx_ldata_build(0x94, 0xE0, 0x1105, 0x0803, 0x00, 0x080, 0, large, 254, out, 9), 5));
+    CHECK(refused(knx_ldata_build(0x94, 0xE0, 0x1105, 0x0803, 0x00, 0x080, 0, large, LONG, out, 9), 5));
 }
 
 static void requests(void) {
@@ -153,42 +160,50 @@ static void requests(void) {
                 LENT(0x06, 0x10, 0x02, 0x07, 0x00, 0x10, 0x15, 0x00, 0x08, 0x01, 192, 168, 1, 10, 0x0E, 0x57)));
     fill();
     CHECK(refused(knx_connectionstate_request(0x15, control, out, 15), 1));
+    CHECK(wrote(knx_connectionstate_request(0x2A, data, out, LONG),
+                LENT(0x06, 0x10, 0x02, 0x07, 0x00, 0x10, 0x2A, 0x00, 0x08, 0x01, 10, 0, 0, 7, 0xC3, 0x50)));
+    fill();
     CHECK(wrote(knx_disconnect_request(0x15, control, out, 16),
                 LENT(0x06, 0x10, 0x02, 0x09, 0x00, 0x10, 0x15, 0x00, 0x08, 0x01, 192, 168, 1, 10, 0x0E, 0x57)));
     fill();
     CHECK(refused(knx_disconnect_request(0x15, control, out, 15), 1));
+    CHECK(wrote(knx_disconnect_request(0x2A, data, out, LONG),
+                LENT(0x06, 0x10, 0x02, 0x09, 0x00, 0x10, 0x2A, 0x00, 0x08, 0x01, 10, 0, 0, 7, 0xC3, 0x50)));
 }
 
 static void tunnelled(void) {
-    static const uint8_t large[65526];
     fill();
     CHECK(wrote(knx_tunneling_request(0x15, 0x07, LENT(0x29, 0x00, 0xBC), out, 13),
                 LENT(0x06, 0x10, 0x04, 0x20, 0x00, 0x0D, 0x04, 0x15, 0x07, 0x00, 0x29, 0x00, 0xBC)));
     fill();
     CHECK(refused(knx_tunneling_request(0x15, 0x07, LENT(0x29, 0x00, 0xBC), out, 12), 1));
-    CHECK(refused(knx_tunneling_request(0x15, 0x07, large, sizeof large, out, 65535), 1));
-    CHECK(refused(knx_tunneling_request(0x15, 0x07, large, sizeof large, out, 65536), 5));
+    CHECK(refused(knx_tunneling_request(0x15, 0x07, large, 65526, out, 65535), 1));
+    CHECK(refused(knx_tunneling_request(0x15, 0x07, large, 65526, out, LONG), 5));
     CHECK(wrote(knx_tunneling_ack(0x15, 0x07, 0x29, out, 11),
                 LENT(0x06, 0x10, 0x04, 0x21, 0x00, 0x0B, 0x04, 0x15, 0x07, 0x00, 0x29)));
     fill();
     CHECK(refused(knx_tunneling_ack(0x15, 0x07, 0x29, out, 10), 1));
+    CHECK(wrote(knx_tunneling_ack(0x2A, 0x08, 0x01, out, LONG),
+                LENT(0x06, 0x10, 0x04, 0x21, 0x00, 0x0B, 0x04, 0x2A, 0x08, 0x00, 0x01)));
 }
 
-/* ---- the table: 40 bytes of image, and two behind it that no call may touch */
+/* ---- the table: 40 bytes of image, and others behind it that no call may touch */
 
-static uint8_t image[42];
+static uint8_t image[LONG];
 
-/* The image with these first places, the rest free, and EE EE behind it. */
+/* The image with these first places, the rest free, and EE up to the end. */
 static void set_image(const uint8_t *bytes, size_t n) {
+    memset(image, 0xEE, LONG);
     memset(image, 0, 40);
     memcpy(image, bytes, n);
-    image[40] = image[41] = 0xEE;
 }
 
 static int image_is(const uint8_t *bytes, size_t n) {
     for (size_t i = 0; i < 40; i++)
         if (image[i] != (i < n ? bytes[i] : 0)) return 0;
-    return image[40] == 0xEE && image[41] == 0xEE;
+    for (size_t i = 40; i < LONG; i++)
+        if (image[i] != 0xEE) return 0;
+    return 1;
 }
 
 static int called(KnxCalled c, unsigned said, size_t start, size_t end, size_t written) {
@@ -200,17 +215,16 @@ static int call_refused(KnxCalled c, unsigned number) {
 }
 
 static void opening(void) {
-    memset(image, 0x77, 42);
+    memset(image, 0xEE, LONG);
     KnxWritten w = knx_table_empty(image, 39);
-    CHECK(w.number == 1 && w.count == 0 && image[0] == 0x77 && image[39] == 0x77);
-    image[40] = image[41] = 0xEE;
-    w = knx_table_empty(image, sizeof image);
+    CHECK(w.number == 1 && w.count == 0 && image[0] == 0xEE && image[39] == 0xEE);
+    w = knx_table_empty(image, LONG);
     CHECK(w.number == 0 && w.count == 40 && image_is(BYTES(0), 0));
     CHECK(call_refused(knx_table_open(image, 39, 21), 1) && image_is(BYTES(0), 0));
-    CHECK(called(knx_table_open(image, 42, 21), KNX_SAID_NOTHING, 0, 0, 0) && image_is(LENT(1, 21, 0, 0, 0)));
+    CHECK(called(knx_table_open(image, LONG, 21), KNX_SAID_NOTHING, 0, 0, 0) && image_is(LENT(1, 21, 0, 0, 0)));
     CHECK(call_refused(knx_table_open(image, 42, 21), 7));
     CHECK(called(knx_table_open(image, 40, 40), KNX_SAID_NOTHING, 0, 0, 0) && image_is(LENT(1, 21, 0, 0, 0, 1, 40, 0, 0, 0)));
-    CHECK(called(knx_table_close(image, 42, 21), KNX_SAID_NOTHING, 0, 0, 0) && image_is(LENT(0, 0, 0, 0, 0, 1, 40, 0, 0, 0)));
+    CHECK(called(knx_table_close(image, LONG, 21), KNX_SAID_NOTHING, 0, 0, 0) && image_is(LENT(0, 0, 0, 0, 0, 1, 40, 0, 0, 0)));
     CHECK(call_refused(knx_table_close(image, 42, 21), 9) && call_refused(knx_table_close(image, 39, 40), 1));
     for (unsigned id = 1; id <= 7; id++) CHECK(knx_table_open(image, 42, (uint8_t)id).number == 0);
     CHECK(call_refused(knx_table_open(image, 42, 8), 8) && call_refused(knx_table_open(image, 42, 40), 7));
@@ -224,12 +238,14 @@ static void waiting(void) {
     CHECK(call_refused(knx_table_send(image, 39, 21, LENT(0x29, 0x00, 0xBC), out, 13), 1));
     CHECK(call_refused(knx_table_send(image, 42, 22, LENT(0x29, 0x00, 0xBC), out, 13), 9));
     CHECK(call_refused(knx_table_send(image, 42, 21, LENT(0x29, 0x00, 0xBC), out, 12), 1));
+    CHECK(call_refused(knx_table_send(image, 42, 21, large, 65526, out, 65535), 1));
+    CHECK(call_refused(knx_table_send(image, 42, 21, large, 65526, out, LONG), 5));
     CHECK(untouched() && image_is(LENT(1, 21, 3, 200, 0)));
-    CHECK(called(knx_table_send(image, 42, 21, LENT(0x29, 0x00, 0xBC), out, 13), KNX_SAID_NOTHING, 0, 0, 13));
+    CHECK(called(knx_table_send(image, LONG, 21, LENT(0x29, 0x00, 0xBC), out, 13), KNX_SAID_NOTHING, 0, 0, 13));
     CHECK(holds(LENT(0x06, 0x10, 0x04, 0x20, 0x00, 0x0D, 0x04, 21, 200, 0x00, 0x29, 0x00, 0xBC)) && image_is(LENT(1, 21, 3, 200, 1)));
     fill();
     CHECK(call_refused(knx_table_send(image, 42, 21, LENT(0x29, 0x00, 0xBC), out, 13), 10) && untouched());
-    CHECK(called(knx_table_timeout(image, 42, 21), KNX_SAID_REPEAT, 0, 0, 0) && image_is(LENT(1, 21, 3, 200, 2)));
+    CHECK(called(knx_table_timeout(image, LONG, 21), KNX_SAID_REPEAT, 0, 0, 0) && image_is(LENT(1, 21, 3, 200, 2)));
     CHECK(called(knx_table_timeout(image, 42, 21), KNX_SAID_GIVE_UP, 0, 0, 0) && image_is(BYTES(0), 0));
 }
 
