@@ -1,4 +1,4 @@
--- Pieces one behind the other, and the loops that lay them. Assumes nothing.
+-- The loops, one turn at a time: pieces one behind the other, the lent buffer, the remainder of a part; a record; and no second line. Assumes nothing.
 use Prim.Native.Nat.{ℕ, zero, suc, _+_, _-_, _*_, _%_, _<_, _≤_}
 use native.Mathlib.Omega.{arith}
 use mathlib.Core.Path.{_≡_, refl, sym, ap, subst, _∙_}
@@ -14,7 +14,7 @@ use Rattle.digits.specs.Digits.{decimal}
 use Rattle.replay.specs.Telling.{remainderFrom}
 use Rattle.replay.specs.Line.{Sheet, sheet, laid, all, pieces, PiecePromise, values, shown, pattern, touchedIn, touched, bytePieces, buffer, lineOf, LinePromise}
 use Rattle.replay.specs.declared.telling.Told.{Told}
-use Rattle.replay.specs.Records.{patternFrom, FillPromise, NextPromise}
+use Rattle.replay.specs.Records.{patternFrom, FillPromise, EndedPromise, NextPromise}
 use Rattle.replay.specs.declared.records.Record.{Record}
 
 -- ---- pieces
@@ -141,10 +141,10 @@ remainder-done s i rest h = ap (remainderFrom rest) (drop-of-length-le s {i = i}
 
 -- ---- a record
 
-pub no-record : (r : Record) (args buf : List ℕ) → r ≡ record { more = false; call = 0; n = 0; m = 0 } → NextPromise r args buf buf
+pub no-record : (r : Record) (args buf : List ℕ) → EndedPromise r → NextPromise r args buf buf
 unfolding patternFrom
 no-record r args buf e =
-    subst (λ (q : Record). NextPromise q args buf buf) (sym e) (record { arguments = (omega arith, refl); lends = (omega arith, refl); filled = refl })
+    subst (λ (q : Record). NextPromise q args buf buf) (sym e) (record { none = λ q. refl; arguments = (omega arith, refl); lends = (omega arith, refl); filled = refl })
 
 pub a-record : (call n m : ℕ) (args buf part : List ℕ) → n ≤ length args → m ≤ length buf → FillPromise (take m buf) part
     → NextPromise (record { more = true; call = call; n = n; m = m }) args buf (part ++ drop m buf)
@@ -152,7 +152,7 @@ a-record call n m args buf part h k p =
     let long : length (take m buf) ≡ m = length-take-le m buf k in
     let filled : part ++ drop m buf ≡ patternFrom m 0 ++ drop m buf = ap (λ (l : List ℕ). l ++ drop m buf) (p ∙ ap (λ (j : ℕ). patternFrom j 0) long) in
     let fits : m ≤ length (part ++ drop m buf) = (let x = ap length p ∙ pattern-length (length (take m buf)) 0 in omega (arith, length-append part (drop m buf))) in
-    record { arguments = (h, sym (length-take-le n args h)); lends = (fits, sym (length-take-le m (part ++ drop m buf) fits)); filled = filled }
+    record { none = λ q. absurd (let z : _≡_ {A = ℕ} 0 1 = cc in omega arith); arguments = (h, sym (length-take-le n args h)); lends = (fits, sym (length-take-le m (part ++ drop m buf) fits)); filled = filled }
 
 -- ---- no second answer
 

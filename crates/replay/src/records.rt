@@ -1,7 +1,5 @@
 // The records of calls on standard input.
-ghost use mathlib.Core.Path.{_≡_};
-ghost use mathlib.Core.Bool.{false};
-ghost use Rattle.replay.specs.Records.{Number24Promise, FillPromise, NextPromise};
+ghost use Rattle.replay.specs.Records.{Number24Promise, FillPromise, EndedPromise, NextPromise};
 use crate::lines;
 
 // Whether there was a record, its call, how many argument bytes it has and how many it lends.
@@ -41,7 +39,7 @@ pub fn next(args: &mut [u8], buf: &mut [u8]) -> Record
 }
 
 fn none() -> Record
-    ensures { λ r. ⌜ r ≡ record { more = false; call = 0; n = 0; m = 0 } ⌝ }
+    ensures { λ r. ⌜ EndedPromise r ⌝ }
 {
     Record {
         more: false,
