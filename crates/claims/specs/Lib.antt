@@ -6,5 +6,8 @@ pub mod Examples
 pub mod Inspection
 pub mod Empty
 pub mod Rows
+pub mod Names
+pub mod Layouts
+pub mod Border
 pub mod Orders
 pub mod Unique

@@ -40,11 +40,11 @@ abbrev bare : List ℕ
 bare = 0x06 ∷ 0x10 ∷ 0x04 ∷ 0x20 ∷ 0x00 ∷ 0x06 ∷ []
 
 -- an L_Data frame with this L and what follows it
-abbrev ldata : ℕ → List ℕ → List ℕ
+abbrev pub ldata : ℕ → List ℕ → List ℕ
 ldata l rest = 0x94 ∷ 0xE0 ∷ 0x11 ∷ 0x05 ∷ 0x08 ∷ 0x03 ∷ l ∷ rest
 
 -- a group write from 1.1.5 to 1/0/3
-abbrev groupWrite : ℕ → LDataFields
+abbrev pub groupWrite : ℕ → LDataFields
 groupWrite l = record {
   ctrl1 = record { raw = 0x94 };
   ctrl2 = record { raw = 0xE0 };

@@ -1,0 +1,192 @@
+-- The C border, one row for each exported function, and the table's image: numbers and bytes typed from 01. The arguments and fields of a row differ, so that two exchanged in promise and code alike are found.
+use Prim.Native.Nat.{ℕ}
+use mathlib.Core.Path.{_≡_, refl}
+use mathlib.Core.List.{List, [], _∷_, _++_}
+use lib.ListN.{replicate}
+use Rattle.wire.specs.declared.refusals.Written.the-variants.{Bytes}
+use Rattle.constants.specs.MessageCodes.{messageOf}
+use Rattle.pci.specs.PciLaws.{tpciOf}
+use Rattle.tunnel.specs.declared.Wait.the-variants.{First, Second}
+use Rattle.table.specs.declared.places.Hold.the-variants.{Free, Held}
+use Rattle.table.specs.declared.places.Place.{Place}
+use Rattle.table.specs.declared.calls.Table.{Table}
+use Rattle.image.specs.Image as Image
+use Rattle.host.specs.Reading as Reading
+use Rattle.host.specs.CemiLData as CemiLData
+use Rattle.host.specs.Building as Building
+use Rattle.host.specs.Called as Called
+use Rattle.host.specs.declared.building.KnxWritten.{KnxWritten}
+use Rattle.host.specs.declared.building.KnxEndpoint.{KnxEndpoint}
+use Rattle.host.specs.declared.called.KnxCalled.{KnxCalled}
+use Rattle.claims.specs.Layouts.{endpointBytes, nines, stamped}
+
+-- ---- reading
+
+pub record Reads : Type 0 where
+  -- an acknowledgement's eleven bytes and one more
+  pub frame : Reading.FramePromise (0x06 ∷ 0x10 ∷ 0x04 ∷ 0x21 ∷ 0x00 ∷ 0x0B ∷ 0x04 ∷ 0x15 ∷ 0x07 ∷ 0x00 ∷ 0x00 ∷ 0xEE ∷ [])
+      (record { start = 6; end = 11; service = 0x0421; total = 11; number = 0 })
+  pub hpai : Reading.HpaiPromise endpointBytes
+      (record { «structure_length» = 8; «host_protocol» = 1; address = 192 ∷ 168 ∷ 1 ∷ 2 ∷ []; port = 3671; number = 0 })
+  pub connect-response : Reading.ConnectResponsePromise (0x15 ∷ 0x00 ∷ endpointBytes ++ 0x04 ∷ 0x05 ∷ 0x11 ∷ 0x0A ∷ [])
+      (record {
+        channel = 0x15;
+        status = 0;
+        «structure_length» = 8;
+        «host_protocol» = 1;
+        address = 192 ∷ 168 ∷ 1 ∷ 2 ∷ [];
+        port = 3671;
+        crd = 0x04 ∷ 0x05 ∷ 0x11 ∷ 0x0A ∷ [];
+        number = 0;
+      })
+  -- a group write of 2A behind two bytes of additional information
+  pub cemi-ldata : CemiLData.CemiLDataPromise stamped
+      (record {
+        start = 13;
+        end = 14;
+        source = 0x1105;
+        destination = 0x0803;
+        «apci_code» = 0x080;
+        «message_code» = 0x29;
+        «control_1» = 0x94;
+        «control_2» = 0xE0;
+        «npdu_length» = 3;
+        «tpci_kind» = 0;
+        «tpci_sequence» = 0;
+        «apci_named» = 1;
+        «six_bit» = 0;
+        number = 0;
+      })
+  -- a numbered packet of sequence 5 with the unnamed code 0x2C0 and the number 6
+  pub cemi-numbered : CemiLData.CemiLDataPromise (0x2E ∷ 0x00 ∷ 0xBC ∷ 0x60 ∷ 0x11 ∷ 0x05 ∷ 0x08 ∷ 0x03 ∷ 0x02 ∷ 0x56 ∷ 0xC6 ∷ [])
+      (record {
+        start = 11;
+        end = 11;
+        source = 0x1105;
+        destination = 0x0803;
+        «apci_code» = 0x2C0;
+        «message_code» = 0x2E;
+        «control_1» = 0xBC;
+        «control_2» = 0x60;
+        «npdu_length» = 2;
+        «tpci_kind» = 1;
+        «tpci_sequence» = 5;
+        «apci_named» = 0;
+        «six_bit» = 6;
+        number = 0;
+      })
+
+pub reads : Reads
+unfolding messageOf
+reads = record {
+  frame = refl;
+  hpai = refl;
+  connect-response = (refl, record { address-4 = refl; crd-4 = refl });
+  cemi-ldata = refl;
+  cemi-numbered = refl;
+}
+
+-- ---- building
+
+abbrev control : KnxEndpoint
+control = record { address = 192 ∷ 168 ∷ 1 ∷ 2 ∷ []; port = 3671 }
+
+abbrev other : KnxEndpoint
+other = record { address = 10 ∷ 0 ∷ 0 ∷ 3 ∷ []; port = 3672 }
+
+abbrev otherBytes : List ℕ
+otherBytes = 0x08 ∷ 0x01 ∷ 0x0A ∷ 0x00 ∷ 0x00 ∷ 0x03 ∷ 0x0E ∷ 0x58 ∷ []
+
+abbrev wrote : ℕ → KnxWritten
+wrote n = record { count = n; number = 0 }
+
+pub record Builds : Type 0 where
+  pub ldata : Building.LDataBuildPromise 0xBC 0x60 0x1105 0x0803 0x54 0x240 6 (0x2A ∷ []) (nines ++ nines) (wrote 10)
+      (0xBC ∷ 0x60 ∷ 0x11 ∷ 0x05 ∷ 0x08 ∷ 0x03 ∷ 0x03 ∷ 0x56 ∷ 0x46 ∷ 0x2A ∷ replicate 8 9)
+  pub connect-request : Building.ConnectRequestPromise control other (nines ++ nines ++ nines) (wrote 26)
+      (0x06 ∷ 0x10 ∷ 0x02 ∷ 0x05 ∷ 0x00 ∷ 0x1A ∷ endpointBytes ++ otherBytes ++ 0x04 ∷ 0x04 ∷ 0x02 ∷ 0x00 ∷ 9 ∷ [])
+  pub state-request : Building.ConnectionStateRequestPromise 0x15 control (nines ++ nines) (wrote 16)
+      (0x06 ∷ 0x10 ∷ 0x02 ∷ 0x07 ∷ 0x00 ∷ 0x10 ∷ 0x15 ∷ 0x00 ∷ endpointBytes ++ 9 ∷ 9 ∷ [])
+  pub disconnect-request : Building.DisconnectRequestPromise 0x15 control (nines ++ nines) (wrote 16)
+      (0x06 ∷ 0x10 ∷ 0x02 ∷ 0x09 ∷ 0x00 ∷ 0x10 ∷ 0x15 ∷ 0x00 ∷ endpointBytes ++ 9 ∷ 9 ∷ [])
+  pub tunneling-request : Building.TunnelingRequestPromise 0x15 0x07 (0x29 ∷ 0x01 ∷ []) (nines ++ nines) (wrote 12)
+      (0x06 ∷ 0x10 ∷ 0x04 ∷ 0x20 ∷ 0x00 ∷ 0x0C ∷ 0x04 ∷ 0x15 ∷ 0x07 ∷ 0x00 ∷ 0x29 ∷ 0x01 ∷ replicate 6 9)
+  pub tunneling-ack : Building.TunnelingAckPromise 0x15 0x07 0x29 (nines ++ nines) (wrote 11)
+      (0x06 ∷ 0x10 ∷ 0x04 ∷ 0x21 ∷ 0x00 ∷ 0x0B ∷ 0x04 ∷ 0x15 ∷ 0x07 ∷ 0x00 ∷ 0x29 ∷ replicate 7 9)
+
+pub builds : Builds
+unfolding tpciOf
+builds = record {
+  ldata = record { answer = Bytes 10; keeps = (refl, refl); tells = refl };
+  connect-request = record { answer = Bytes 26; keeps = (refl, refl); tells = refl };
+  state-request = record { answer = Bytes 16; keeps = (refl, refl); tells = refl };
+  disconnect-request = record { answer = Bytes 16; keeps = (refl, refl); tells = refl };
+  tunneling-request = record { answer = Bytes 12; keeps = (refl, refl); tells = refl };
+  tunneling-ack = record { answer = Bytes 11; keeps = (refl, refl); tells = refl };
+}
+
+-- ---- the table's image
+
+-- a place: held, id, r, s, waiting; then another, then six free ones
+abbrev imageOf : List ℕ → List ℕ → List ℕ
+imageOf first second = first ++ second ++ replicate 30 0
+
+abbrev place : ℕ → ℕ → ℕ → ℕ → List ℕ
+place id r s waiting = 1 ∷ id ∷ r ∷ s ∷ waiting ∷ []
+
+abbrev none : List ℕ
+none = 0 ∷ 0 ∷ 0 ∷ 0 ∷ 0 ∷ []
+
+-- 0x15 with r = 7 and s = 3 waits first; 0x16 with r = 8 and s = 4 waits second
+abbrev two : List ℕ
+two = imageOf (place 0x15 7 3 1) (place 0x16 8 4 2)
+
+abbrev twoPlaces : List Place
+twoPlaces =
+    record { hold = Held 0x15 (record { r = 7; s = 3; w = First }) }
+    ∷ record { hold = Held 0x16 (record { r = 8; s = 4; w = Second }) }
+    ∷ replicate 6 (record { hold = Free })
+
+abbrev said : ℕ → KnxCalled
+said n = record { start = 0; end = 0; written = 0; said = n; number = 0 }
+
+pub record Tables : Type 0 where
+  pub unpacked : Image.UnpackPromise two (record { places = twoPlaces })
+  pub packed : Image.PackPromise twoPlaces (replicate 41 9) (Bytes 40) (two ++ 9 ∷ [])
+  pub empty : Called.EmptyPromise (replicate 41 9) (wrote 40) (replicate 40 0 ++ 9 ∷ [])
+  pub opens : Called.OpenPromise (imageOf (place 0x15 7 3 1) none) 0x16 (said 0) (imageOf (place 0x15 7 3 1) (place 0x16 0 0 0))
+  pub closes : Called.ClosePromise two 0x15 (said 0) (imageOf none (place 0x16 8 4 2))
+  pub repeats : Called.TimeoutPromise two 0x15 (said 1) (imageOf (place 0x15 7 3 2) (place 0x16 8 4 2))
+  pub gives-up : Called.TimeoutPromise two 0x16 (said 2) (imageOf (place 0x15 7 3 1) none)
+  -- the request has the sending number 3, and the channel waits first
+  pub sends : Called.SendPromise (imageOf (place 0x15 7 3 0) none) 0x15 (0x11 ∷ 0x01 ∷ []) (nines ++ nines)
+      (record { start = 0; end = 0; written = 12; said = 0; number = 0 })
+      (imageOf (place 0x15 7 3 1) none)
+      (0x06 ∷ 0x10 ∷ 0x04 ∷ 0x20 ∷ 0x00 ∷ 0x0C ∷ 0x04 ∷ 0x15 ∷ 0x03 ∷ 0x00 ∷ 0x11 ∷ 0x01 ∷ replicate 6 9)
+  -- request number 7 is delivered and acknowledged; acknowledgement number 3 says "sent"
+  pub delivers : Called.DatagramPromise two (0x06 ∷ 0x10 ∷ 0x04 ∷ 0x20 ∷ 0x00 ∷ 0x0C ∷ 0x04 ∷ 0x15 ∷ 0x07 ∷ 0x00 ∷ 0x29 ∷ 0x01 ∷ 0xEE ∷ []) (nines ++ nines)
+      (record { start = 10; end = 12; written = 11; said = 3; number = 0 })
+      (imageOf (place 0x15 8 3 1) (place 0x16 8 4 2))
+      (0x06 ∷ 0x10 ∷ 0x04 ∷ 0x21 ∷ 0x00 ∷ 0x0B ∷ 0x04 ∷ 0x15 ∷ 0x07 ∷ 0x00 ∷ 0x00 ∷ replicate 7 9)
+  pub sent : Called.DatagramPromise two (0x06 ∷ 0x10 ∷ 0x04 ∷ 0x21 ∷ 0x00 ∷ 0x0B ∷ 0x04 ∷ 0x15 ∷ 0x03 ∷ 0x00 ∷ 0x00 ∷ []) [] (said 6)
+      (imageOf (place 0x15 7 4 0) (place 0x16 8 4 2))
+      []
+  pub ignored : Called.DatagramPromise two (0x06 ∷ 0x10 ∷ 0x04 ∷ 0x21 ∷ 0x00 ∷ 0x0B ∷ 0x04 ∷ 0x15 ∷ 0x07 ∷ 0x00 ∷ 0x00 ∷ []) [] (said 7) two []
+  -- an image of 39 bytes is 1
+  pub short : Called.OpenPromise (replicate 39 0) 0x15 (record { start = 0; end = 0; written = 0; said = 0; number = 1 }) (replicate 39 0)
+
+pub tables : Tables
+tables = record {
+  unpacked = refl;
+  packed = (refl, refl);
+  empty = record { answer = Bytes 40; keeps = (refl, refl); tells = refl };
+  opens = refl;
+  closes = refl;
+  repeats = refl;
+  gives-up = refl;
+  sends = refl;
+  delivers = refl;
+  sent = refl;
+  ignored = refl;
+  short = refl;
+}

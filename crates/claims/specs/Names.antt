@@ -1,0 +1,283 @@
+-- Names and numbers, typed once more from 01 and the KNX documents: each variant of each enum with its number, and each bit of the control fields. Two names exchanged in definition, code and law alike are found here.
+use Prim.Native.Nat.{ℕ}
+use mathlib.Core.Path.{_≡_, refl}
+use mathlib.Core.Bool.{Bool, true, false}
+use mathlib.Core.List.{List, [], _∷_}
+use Rattle.wire.specs.declared.refusals.Refusal.the-variants.{UnsupportedServiceType, InvalidMessageCode}
+use Rattle.constants.specs.Services as Services
+use Rattle.constants.specs.declared.ServiceType.the-variants as S
+use Rattle.constants.specs.declared.ServiceAnswer.the-variants as ServiceAnswer
+use Rattle.constants.specs.MessageCodes as MessageCodes
+use Rattle.constants.specs.declared.message_code.CEMIMessageCode.the-variants as M
+use Rattle.constants.specs.declared.message_code.CEMIMessageCodeAnswer.the-variants as MessageCodeAnswer
+use Rattle.constants.specs.Priorities as Priorities
+use Rattle.constants.specs.declared.priorities.Priority.the-variants as P
+use Rattle.control.specs.First as First
+use Rattle.control.specs.Second as Second
+use Rattle.control.specs.declared.first.ControlField1.{ControlField1}
+use Rattle.control.specs.declared.second.ControlField2.{ControlField2}
+use Rattle.pci.specs.Transport as Transport
+use Rattle.pci.specs.declared.transport.Tpci.the-variants as T
+use Rattle.pci.specs.Application as Application
+use Rattle.pci.specs.declared.application.Apci.{Apci}
+use Rattle.pci.specs.declared.application.Apci.the-variants as A
+use Rattle.ldata.specs.LData as LData
+use Rattle.ldata.specs.declared.fields.LDataFields.{LDataFields}
+use Rattle.ldata.specs.declared.destination.GroupAddressAnswer.the-variants as G
+use Rattle.ldata.specs.declared.destination.IndividualAddressAnswer.the-variants as I
+use Rattle.cemi.specs.Cemi as Cemi
+use Rattle.tunnel.specs.declared.Said.the-variants as Said
+use Rattle.tunnel.specs.declared.Wait.the-variants as Wait
+use Rattle.tunnels.specs.Calls.{saidOf}
+use Rattle.image.specs.Image.{waitNumber}
+
+-- what `from_u16` answers to each code of 01, and to two that the published crate knows
+pub record ServiceNames : Type 0 where
+  pub connect-request : Services.FromPromise 0x0205 (ServiceAnswer.Service S.ConnectRequest)
+  pub connect-response : Services.FromPromise 0x0206 (ServiceAnswer.Service S.ConnectResponse)
+  pub state-request : Services.FromPromise 0x0207 (ServiceAnswer.Service S.ConnectionstateRequest)
+  pub state-response : Services.FromPromise 0x0208 (ServiceAnswer.Service S.ConnectionstateResponse)
+  pub disconnect-request : Services.FromPromise 0x0209 (ServiceAnswer.Service S.DisconnectRequest)
+  pub disconnect-response : Services.FromPromise 0x020A (ServiceAnswer.Service S.DisconnectResponse)
+  pub tunnelling-request : Services.FromPromise 0x0420 (ServiceAnswer.Service S.TunnellingRequest)
+  pub tunnelling-ack : Services.FromPromise 0x0421 (ServiceAnswer.Service S.TunnellingAck)
+  pub search-request : Services.FromPromise 0x0201 (ServiceAnswer.Refused UnsupportedServiceType)
+  pub routing-indication : Services.FromPromise 0x0530 (ServiceAnswer.Refused UnsupportedServiceType)
+
+pub services : ServiceNames
+services = record {
+  connect-request = refl;
+  connect-response = refl;
+  state-request = refl;
+  state-response = refl;
+  disconnect-request = refl;
+  disconnect-response = refl;
+  tunnelling-request = refl;
+  tunnelling-ack = refl;
+  search-request = refl;
+  routing-indication = refl;
+}
+
+pub record MessageCodeNames : Type 0 where
+  pub ldata-req : MessageCodes.FromPromise 0x11 (MessageCodeAnswer.Code M.LDataReq)
+  pub ldata-ind : MessageCodes.FromPromise 0x29 (MessageCodeAnswer.Code M.LDataInd)
+  pub ldata-con : MessageCodes.FromPromise 0x2E (MessageCodeAnswer.Code M.LDataCon)
+  pub lraw-req : MessageCodes.FromPromise 0x10 (MessageCodeAnswer.Code M.LRawReq)
+  pub lraw-ind : MessageCodes.FromPromise 0x2D (MessageCodeAnswer.Code M.LRawInd)
+  pub lraw-con : MessageCodes.FromPromise 0x2F (MessageCodeAnswer.Code M.LRawCon)
+  pub lbusmon-ind : MessageCodes.FromPromise 0x2B (MessageCodeAnswer.Code M.LBusmonInd)
+  pub poll-data-req : MessageCodes.FromPromise 0x13 (MessageCodeAnswer.Refused InvalidMessageCode)
+  -- L_Data is asked of the name
+  pub is-req : Cemi.IsLDataPromise (record { «message_code» = M.LDataReq }) true
+  pub is-ind : Cemi.IsLDataPromise (record { «message_code» = M.LDataInd }) true
+  pub is-con : Cemi.IsLDataPromise (record { «message_code» = M.LDataCon }) true
+  pub is-no-raw : Cemi.IsLDataPromise (record { «message_code» = M.LRawInd }) false
+  pub is-no-busmon : Cemi.IsLDataPromise (record { «message_code» = M.LBusmonInd }) false
+
+pub message-codes : MessageCodeNames
+message-codes = record {
+  ldata-req = refl;
+  ldata-ind = refl;
+  ldata-con = refl;
+  lraw-req = refl;
+  lraw-ind = refl;
+  lraw-con = refl;
+  lbusmon-ind = refl;
+  poll-data-req = refl;
+  is-req = refl;
+  is-ind = refl;
+  is-con = refl;
+  is-no-raw = refl;
+  is-no-busmon = refl;
+}
+
+pub record PriorityNames : Type 0 where
+  pub system : Priorities.FromPromise 0 P.System
+  pub normal : Priorities.FromPromise 1 P.Normal
+  pub urgent : Priorities.FromPromise 2 P.Urgent
+  pub low : Priorities.FromPromise 3 P.Low
+  pub four : Priorities.FromPromise 4 P.System
+
+pub priorities : PriorityNames
+priorities = record { system = refl; normal = refl; urgent = refl; low = refl; four = refl }
+
+-- ---- control fields, bit by bit
+
+abbrev first : ℕ → ControlField1
+first raw = record { raw = raw }
+
+abbrev second : ℕ → ControlField2
+second raw = record { raw = raw }
+
+pub record ControlBits : Type 0 where
+  -- control 1: 0x80 standard frame, 0x20 do not repeat, 0x10 broadcast, 0x0C priority, 0x02 acknowledgement, 0x01 error
+  pub standard : First.StandardFramePromise (first 0x80) true
+  pub not-standard : First.StandardFramePromise (first 0x7F) false
+  pub single : First.DoNotRepeatPromise (first 0x20) true
+  pub not-single : First.DoNotRepeatPromise (first 0xDF) false
+  pub broadcast : First.BroadcastPromise (first 0x10) true
+  pub not-broadcast : First.BroadcastPromise (first 0xEF) false
+  pub normal : First.PriorityPromise (first 0x04) P.Normal
+  pub urgent : First.PriorityPromise (first 0xFB) P.Urgent
+  pub acknowledge : First.AckRequestedPromise (first 0x02) true
+  pub not-acknowledge : First.AckRequestedPromise (first 0xFD) false
+  pub error : First.HasErrorPromise (first 0x01) true
+  pub not-error : First.HasErrorPromise (first 0xFE) false
+  -- control 2: 0x80 group address, 0x70 hop count, 0x0F extended format
+  pub group : Second.GroupAddressPromise (second 0x80) true
+  pub individual : Second.GroupAddressPromise (second 0x7F) false
+  pub hops : Second.HopCountPromise (second 0x60) 6
+  pub not-hops : Second.HopCountPromise (second 0x8F) 0
+  pub format : Second.ExtendedFormatPromise (second 0xF4) 4
+  -- what `new` makes of its arguments
+  pub new-first : First.NewPromise true false true P.Normal false false (first 0x94)
+  pub new-others : First.NewPromise false true false P.Urgent true true (first 0x2B)
+  pub new-second : Second.NewPromise true 6 4 (second 0xE4)
+
+pub control-bits : ControlBits
+control-bits = record {
+  standard = refl;
+  not-standard = refl;
+  single = refl;
+  not-single = refl;
+  broadcast = refl;
+  not-broadcast = refl;
+  normal = refl;
+  urgent = refl;
+  acknowledge = refl;
+  not-acknowledge = refl;
+  error = refl;
+  not-error = refl;
+  group = refl;
+  individual = refl;
+  hops = refl;
+  not-hops = refl;
+  format = refl;
+  new-first = refl;
+  new-others = refl;
+  new-second = refl;
+}
+
+-- ---- TPCI and APCI
+
+-- the two bytes of TPCI and APCI
+pub record PciNames : Type 0 where
+  pub unnumbered-data : Transport.FromPromise 0x3F T.UnnumberedData
+  pub numbered-data : Transport.FromPromise 0x57 (T.NumberedData 5)
+  pub unnumbered-control : Transport.FromPromise 0x81 T.UnnumberedControl
+  pub numbered-control : Transport.FromPromise 0xD6 (T.NumberedControl 5)
+  pub group-value-read : Application.FromPromise 0x00 0x3F A.GroupValueRead
+  pub group-value-response : Application.FromPromise 0x00 0x40 A.GroupValueResponse
+  pub group-value-write : Application.FromPromise 0x00 0x80 A.GroupValueWrite
+  pub individual-address-write : Application.FromPromise 0x00 0xC0 A.IndividualAddressWrite
+  pub individual-address-read : Application.FromPromise 0x01 0x00 A.IndividualAddressRead
+  pub individual-address-response : Application.FromPromise 0x01 0x40 A.IndividualAddressResponse
+  pub adc-read : Application.FromPromise 0x01 0x80 A.AdcRead
+  pub adc-response : Application.FromPromise 0x01 0xC0 A.AdcResponse
+  pub memory-read : Application.FromPromise 0x02 0x00 A.MemoryRead
+  pub memory-response : Application.FromPromise 0x02 0x40 A.MemoryResponse
+  pub memory-write : Application.FromPromise 0x02 0x80 A.MemoryWrite
+  pub user-message : Application.FromPromise 0x02 0xC0 (A.Unknown 0x2C0)
+  pub device-descriptor-read : Application.FromPromise 0x03 0x00 A.DeviceDescriptorRead
+  pub device-descriptor-response : Application.FromPromise 0x03 0x40 A.DeviceDescriptorResponse
+  pub restart : Application.FromPromise 0x03 0x80 (A.Unknown 0x380)
+  pub escape : Application.FromPromise 0x03 0xC0 (A.Unknown 0x3C0)
+  pub code-of-write : Application.ToPromise A.GroupValueWrite 0x080
+  pub code-of-memory-write : Application.ToPromise A.MemoryWrite 0x280
+
+pub pci-names : PciNames
+pci-names = record {
+  unnumbered-data = refl;
+  numbered-data = refl;
+  unnumbered-control = refl;
+  numbered-control = refl;
+  group-value-read = refl;
+  group-value-response = refl;
+  group-value-write = refl;
+  individual-address-write = refl;
+  individual-address-read = refl;
+  individual-address-response = refl;
+  adc-read = refl;
+  adc-response = refl;
+  memory-read = refl;
+  memory-response = refl;
+  memory-write = refl;
+  user-message = refl;
+  device-descriptor-read = refl;
+  device-descriptor-response = refl;
+  restart = refl;
+  escape = refl;
+  code-of-write = refl;
+  code-of-memory-write = refl;
+}
+
+-- a record by control 2 and APCI
+abbrev asking : ℕ → Apci → LDataFields
+asking control-2 a = record {
+  ctrl1 = record { raw = 0x94 };
+  ctrl2 = record { raw = control-2 };
+  source = record { 0 = 0x1105 };
+  «destination_raw» = 0x0803;
+  «npdu_length» = 2;
+  tpci = T.UnnumberedData;
+  apci = a;
+}
+
+-- what an L_Data record is asked: each of the three services by its name, and whom it is for by bit 7 of control 2
+pub record Asked : Type 0 where
+  pub write : LData.IsServicePromise 0x080 (asking 0xE0 A.GroupValueWrite) true
+  pub write-unknown : LData.IsServicePromise 0x080 (asking 0xE0 (A.Unknown 0x080)) false
+  pub write-response : LData.IsServicePromise 0x080 (asking 0xE0 A.GroupValueResponse) false
+  pub read : LData.IsServicePromise 0x000 (asking 0xE0 A.GroupValueRead) true
+  pub read-unknown : LData.IsServicePromise 0x000 (asking 0xE0 (A.Unknown 0x000)) false
+  pub response : LData.IsServicePromise 0x040 (asking 0xE0 A.GroupValueResponse) true
+  pub response-read : LData.IsServicePromise 0x040 (asking 0xE0 A.GroupValueRead) false
+  pub to-group : LData.DestinationGroupPromise (asking 0x80 A.GroupValueWrite) (G.Address (record { 0 = 0x0803 }))
+  pub to-no-group : LData.DestinationGroupPromise (asking 0x7F A.GroupValueWrite) G.None
+  pub to-device : LData.DestinationIndividualPromise (asking 0x7F A.GroupValueWrite) (I.Address (record { 0 = 0x0803 }))
+  pub to-no-device : LData.DestinationIndividualPromise (asking 0x80 A.GroupValueWrite) I.None
+
+pub asked : Asked
+asked = record {
+  write = refl;
+  write-unknown = refl;
+  write-response = refl;
+  read = refl;
+  read-unknown = refl;
+  response = refl;
+  response-read = refl;
+  to-group = refl;
+  to-no-group = refl;
+  to-device = refl;
+  to-no-device = refl;
+}
+
+-- ---- the tunnel's words, as the C border and the image number them
+
+pub record TunnelNumbers : Type 0 where
+  pub nothing : saidOf Said.Nothing ≡ 0
+  pub repeat : saidOf Said.Repeat ≡ 1
+  pub give-up : saidOf Said.GiveUp ≡ 2
+  pub deliver : saidOf Said.Deliver ≡ 3
+  pub duplicate : saidOf Said.Duplicate ≡ 4
+  pub out-of-order : saidOf Said.OutOfOrder ≡ 5
+  pub sent : saidOf Said.Sent ≡ 6
+  pub ignored : saidOf Said.Ignored ≡ 7
+  pub idle : waitNumber Wait.Idle ≡ 0
+  pub first : waitNumber Wait.First ≡ 1
+  pub second : waitNumber Wait.Second ≡ 2
+
+pub tunnel-numbers : TunnelNumbers
+tunnel-numbers = record {
+  nothing = refl;
+  repeat = refl;
+  give-up = refl;
+  deliver = refl;
+  duplicate = refl;
+  out-of-order = refl;
+  sent = refl;
+  ignored = refl;
+  idle = refl;
+  first = refl;
+  second = refl;
+}
