@@ -23,6 +23,8 @@ use Rattle.constants.specs.declared.priorities.Priority.{Priority}
 use Rattle.control.specs.First as First
 use Rattle.control.specs.Second as Second
 use Rattle.control.specs.FieldLaws as FieldLaws
+use Rattle.control.specs.declared.first.ControlField1.{ControlField1}
+use Rattle.control.specs.declared.second.ControlField2.{ControlField2}
 use Rattle.pci.specs.Application as Application
 use Rattle.pci.specs.PciLaws as PciLaws
 use Rattle.pci.specs.declared.application.Apci.the-variants as P
@@ -253,12 +255,12 @@ channel-request-endpoint = ChannelLaws.endpoint-back
 
 -- ---- cemi.rs: control fields
 
--- each accessor of a field that `new` made gives `new`'s argument; bit 6 of the first is 0, and the second keeps low bits
-pub control1-reads : (standard single broadcast : Bool) (priority : Priority) (ack error : Bool)
-    → FieldLaws.FirstReads (First.newRaw standard single broadcast priority ack error) standard single broadcast priority ack error
+-- what each accessor promises of a field that `new` made is `new`'s argument; bit 6 of the first is 0, and the second keeps low bits
+pub control1-reads : (standard single broadcast : Bool) (priority : Priority) (ack error : Bool) (c : ControlField1)
+    → First.NewPromise standard single broadcast priority ack error c → FieldLaws.FirstReads c standard single broadcast priority ack error
 control1-reads = FieldLaws.first-reads
 
-pub control2-reads : (group : Bool) (hops format : ℕ) → FieldLaws.SecondReads (Second.newRaw group hops format) group hops format
+pub control2-reads : (group : Bool) (hops format : ℕ) (c : ControlField2) → Second.NewPromise group hops format c → FieldLaws.SecondReads c group hops format
 control2-reads = FieldLaws.second-reads
 
 -- ---- cemi.rs: APCI

@@ -10,4 +10,5 @@ pub mod Names
 pub mod Layouts
 pub mod Border
 pub mod Orders
+pub mod TunnelRows
 pub mod Unique

@@ -5,6 +5,7 @@ use mathlib.Core.List.{List, [], _∷_, _++_}
 use lib.ListN.{replicate}
 use Rattle.wire.specs.Told.{done, viewed}
 use Rattle.wire.specs.Written.{tells}
+use Rattle.wire.specs.declared.refusals.Refusal.the-variants.{InvalidMessageCode}
 use Rattle.constants.specs.declared.ServiceType.the-variants.{TunnellingAck}
 use Rattle.constants.specs.declared.message_code.CEMIMessageCode.{CEMIMessageCode}
 use Rattle.constants.specs.declared.message_code.CEMIMessageCode.the-variants.{LDataInd, LRawInd}
@@ -14,6 +15,7 @@ use Rattle.ldata.specs.Count.{crateCount}
 use Rattle.ldata.specs.LData as LData
 use Rattle.ldata.specs.Builder as LDataBuilder
 use Rattle.cemi.specs.Cemi as Cemi
+use Rattle.cemi.specs.declared.InfoLengthAnswer.the-variants as I
 use Rattle.header.specs.Header as Header
 use Rattle.hpai.specs.Hpai as Hpai
 use Rattle.connect.specs.Cri as Cri
@@ -26,18 +28,6 @@ use Rattle.tunnelling.specs.Ack as Ack
 use Rattle.frame.specs.Frame as Frame
 use Rattle.frame.specs.Builder as Builder
 use Rattle.frame.specs.RoundTrip.{built}
-use mathlib.Core.Bool.{Bool, true}
-use Rattle.wire.specs.declared.refusals.Refusal.the-variants.{BufferTooSmall, AwaitsAck, AwaitsNothing}
-use Rattle.tunnel.specs.declared.Wait.{Wait}
-use Rattle.tunnel.specs.declared.Wait.the-variants.{Idle, First, Second}
-use Rattle.tunnel.specs.declared.Said.the-variants.{Repeat, GiveUp, Duplicate, OutOfOrder, Ignored}
-use Rattle.tablelaws.specs.Firsts.{isNone}
-use Rattle.tablelaws.specs.Store.{step}
-use Rattle.tunnels.specs.Calls.{Call, Timeout, Send, Datagram, Outcome, saidOf, refuses, says}
-use Rattle.tunnels.specs.Lone.{lone}
-use Rattle.tunnels.specs.Eight.{chan, eightOf, emptyOf}
-use Rattle.table.specs.Places.{kind}
-use Rattle.claims.specs.Examples.{request, ack, room}
 
 abbrev built01 : ℕ → ℕ → ℕ
 built01 n m = tells (Builder.checks n m) (replicate n 0) .number
@@ -69,18 +59,6 @@ asLData s = LData.parseBy01 crateCount s .number
 -- `as_ldata` of a record with this code
 abbrev inCemi : CEMIMessageCode → List ℕ → ℕ
 inCemi m s = Cemi.asLDataBy01 (record { «message_code» = m }) s .number
-
--- what a call on the empty table is answered
-abbrev onEmpty : Call → ℕ
-onEmpty c = step chan (eightOf kind) (emptyOf kind) c .0 .0 .number
-
--- a lone tunnel with r = 0, s = 0
-abbrev alone : Wait → Call → Outcome
-alone w c = lone (record { r = 0; s = 0; w = w }) c .0
-
--- and whether it is then closed
-abbrev closes : Wait → Call → Bool
-closes w c = isNone (lone (record { r = 0; s = 0; w = w }) c .1)
 
 pub record Order : Type 0 where
   -- the header: 1 before 2, 2 before 3, 3 before 4
@@ -129,6 +107,8 @@ pub record Order : Type 0 where
   pub info-before-ldata : inCemi LDataInd (0x29 ∷ 0x00 ∷ replicate 8 0) ≡ 1
   pub record-decides : inCemi LRawInd (0x29 ∷ 0x00 ∷ nineBytes 2 0x00) ≡ 6
   pub slice-first : inCemi LRawInd (0x13 ∷ []) ≡ 1
+  pub info-length-code : Cemi.InfoLengthPromise (0x13 ∷ 0x05 ∷ []) (I.Refused InvalidMessageCode)
+  pub info-length-known : Cemi.InfoLengthPromise (0x2D ∷ 0x05 ∷ []) (I.Length 5)
   -- L_Data: nine bytes for control packets too; data needs L of 2, control packets of 1
   pub control-of-8 : asLData (0x94 ∷ 0xE0 ∷ 0x11 ∷ 0x05 ∷ 0x08 ∷ 0x03 ∷ 0x00 ∷ 0x80 ∷ []) ≡ 1
   pub data-L0 : asLData (nineBytes 0 0x00) ≡ 2
@@ -147,29 +127,6 @@ pub record Order : Type 0 where
   pub data-254 : builtLData UnnumberedData 0x080 63 254 0 ≡ 5
   pub room-261 : builtLData UnnumberedData 0x080 63 253 261 ≡ 1
   pub room-262 : builtLData (NumberedData 15) 0x3C0 63 253 262 ≡ 0
-  -- a datagram: frame refusals, then 12, then body refusals, then 9, then the output
-  pub frame-first : onEmpty (Datagram (0x06 ∷ 0x10 ∷ 0xFF ∷ 0xFF ∷ 0x00 ∷ 0x06 ∷ []) []) ≡ 4
-  pub other-service : onEmpty (Datagram (0x06 ∷ 0x10 ∷ 0x02 ∷ 0x06 ∷ 0x00 ∷ 0x06 ∷ []) []) ≡ 12
-  pub body-before-channel : onEmpty (Datagram (0x06 ∷ 0x10 ∷ 0x04 ∷ 0x20 ∷ 0x00 ∷ 0x06 ∷ []) []) ≡ 1
-  pub channel-before-output : onEmpty (Datagram (request 21 0) []) ≡ 9
-  pub short-output : alone Idle (Datagram (request 21 0) []) ≡ refuses BufferTooSmall []
-  pub duplicate-short-output : alone Idle (Datagram (request 21 255) []) ≡ refuses BufferTooSmall []
-  pub out-of-order-no-output : alone Idle (Datagram (request 21 1) []) ≡ says OutOfOrder []
-  -- just before 0 is 255
-  pub duplicate-255 : alone Idle (Datagram (request 21 255) room) .0 ≡ done (saidOf Duplicate ∷ 11 ∷ [])
-  -- send: 9, then 10, then the request's 1 and 5
-  pub send-closed : onEmpty (Send 21 [] []) ≡ 9
-  pub send-waiting : alone First (Send 21 [] []) ≡ refuses AwaitsAck []
-  pub send-no-room : alone Idle (Send 21 [] (replicate 9 0)) ≡ refuses BufferTooSmall (replicate 9 0)
-  -- timeout: 11 if idle; give up, by a timeout or by an acknowledgement with another status, closes
-  pub timeout-idle : alone Idle (Timeout 21) ≡ refuses AwaitsNothing []
-  pub timeout-first : alone First (Timeout 21) ≡ says Repeat []
-  pub timeout-second : alone Second (Timeout 21) ≡ says GiveUp []
-  pub timeout-closes : closes Second (Timeout 21) ≡ true
-  pub bad-ack-second : alone Second (Datagram (ack 21 0 1) []) ≡ says GiveUp []
-  pub bad-ack-closes : closes Second (Datagram (ack 21 0 1) []) ≡ true
-  pub bad-ack-idle : alone Idle (Datagram (ack 21 0 1) []) ≡ says Ignored []
-  pub ack-other-number : alone First (Datagram (ack 21 1 0) []) ≡ says Ignored []
 
 pub orders : Order
 orders = record {
@@ -208,6 +165,8 @@ orders = record {
   info-before-ldata = refl;
   record-decides = refl;
   slice-first = refl;
+  info-length-code = refl;
+  info-length-known = refl;
   control-of-8 = refl;
   data-L0 = refl;
   data-L1 = refl;
@@ -224,23 +183,4 @@ orders = record {
   data-254 = refl;
   room-261 = refl;
   room-262 = refl;
-  frame-first = refl;
-  other-service = refl;
-  body-before-channel = refl;
-  channel-before-output = refl;
-  short-output = refl;
-  duplicate-short-output = refl;
-  out-of-order-no-output = refl;
-  duplicate-255 = refl;
-  send-closed = refl;
-  send-waiting = refl;
-  send-no-room = refl;
-  timeout-idle = refl;
-  timeout-first = refl;
-  timeout-second = refl;
-  timeout-closes = refl;
-  bad-ack-second = refl;
-  bad-ack-closes = refl;
-  bad-ack-idle = refl;
-  ack-other-number = refl;
 }
