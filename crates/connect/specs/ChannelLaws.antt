@@ -16,7 +16,9 @@ use Rattle.wire.specs.declared.refusals.Written.{Written}
 use Rattle.wire.specs.declared.refusals.Written.the-variants as W
 use Rattle.constants.specs.declared.ServiceType.{ServiceType}
 use Rattle.frame.specs.Builder.{frame}
-use Rattle.frame.specs.RoundTrip.{Back, frame-back}
+use Rattle.frame.specs.Frame as Frame
+use Rattle.frame.specs.RoundTrip.{Carries, carries}
+use Rattle.frame.specs.declared.fields.FrameAnswer.{FrameAnswer}
 use Rattle.hpai.specs.Hpai as Hpai
 use Rattle.hpai.specs.HpaiLaws as HpaiLaws
 use Rattle.hpai.specs.declared.Hpai.{Hpai}
@@ -33,13 +35,21 @@ pub request-one : (s : ServiceType) (channel : ℕ) (h : Hpai) (b : List ℕ) (r
     → RequestPromise s channel h b r after → RequestPromise s channel h b q later → (r ≡ q) × (after ≡ later)
 request-one s channel h b = writes-one (requestChecks (length b)) (frame s (requestLayout channel h)) b
 
-pub request-back : (s : ServiceType) (channel : ℕ) (h : Hpai) (b : List ℕ) (n : ℕ) (after : List ℕ)
-    → RequestPromise s channel h b (W.Bytes n) after → (n ≡ 6 + length (requestLayout channel h)) × Back s (requestLayout channel h) b after
-request-back s channel h b = frame-back (requestChecks (length b)) s (requestLayout channel h) b
-
 -- the endpoint stands at 2 of the body, which is 8 of the frame
-pub endpoint-back : (channel : ℕ) (h : Hpai) (r : HpaiAnswer) → HpaiLaws.Proper h → Hpai.ParsePromise (drop 2 (requestLayout channel h)) r → r ≡ HpaiLaws.accepted h
+endpoint-back : (channel : ℕ) (h : Hpai) (r : HpaiAnswer) → HpaiLaws.Proper h → Hpai.ParsePromise (drop 2 (requestLayout channel h)) r → r ≡ HpaiLaws.accepted h
 endpoint-back channel h r p x = HpaiLaws.told-one r (HpaiLaws.accepted h) (x ∙ ap Hpai.parseBy01 (sym (append-nil (Hpai.layout h))) ∙ HpaiLaws.reads-back h [] p)
+
+-- what is read of a request's body
+pub record Reads (channel : ℕ) (h : Hpai) (part : List ℕ) : Type 0 where
+  pub channel-first : getD part 0 0 ≡ channel
+  pub control-endpoint : (r : HpaiAnswer) → Hpai.ParsePromise (drop 2 part) r → r ≡ HpaiLaws.accepted h
+
+-- built, parsed as a frame, the parts of its body parsed
+pub round-trip : (s : ServiceType) (channel : ℕ) (h : Hpai) (b : List ℕ) (n : ℕ) (after : List ℕ) (p : FrameAnswer) → HpaiLaws.Proper h
+    → RequestPromise s channel h b (W.Bytes n) after → Frame.ParsePromise after p → Carries s 16 n after p (Reads channel h)
+round-trip s channel h b n after p proper built parsed =
+    carries (requestChecks (length b)) s (requestLayout channel h) b 16 n after p (Reads channel h) (omega (arith, HpaiLaws.length-layout h (proper .address-4))) built parsed
+    (record { channel-first = refl; control-endpoint = λ r. endpoint-back channel h r proper })
 
 -- ---- responses
 

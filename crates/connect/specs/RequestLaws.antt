@@ -10,7 +10,9 @@ use Rattle.wire.specs.declared.refusals.Written.{Written}
 use Rattle.wire.specs.declared.refusals.Written.the-variants as W
 use Rattle.constants.specs.declared.ServiceType.the-variants as S
 use Rattle.frame.specs.Builder.{frame}
-use Rattle.frame.specs.RoundTrip.{Back, frame-back}
+use Rattle.frame.specs.Frame as Frame
+use Rattle.frame.specs.RoundTrip.{Carries, carries}
+use Rattle.frame.specs.declared.fields.FrameAnswer.{FrameAnswer}
 use Rattle.hpai.specs.Hpai as Hpai
 use Rattle.hpai.specs.HpaiLaws as HpaiLaws
 use Rattle.hpai.specs.declared.Hpai.{Hpai}
@@ -31,19 +33,15 @@ pub record Proper (q : ConnectRequest) : Type 0 where
   pub control : HpaiLaws.Proper (q .«control_endpoint»)
   pub other : HpaiLaws.Proper (q .«data_endpoint»)
 
-pub build-back : (q : ConnectRequest) (b : List ℕ) (n : ℕ) (after : List ℕ)
-    → BuildPromise q b (W.Bytes n) after → (n ≡ 6 + length (layout q)) × Back S.ConnectRequest (layout q) b after
-build-back q b = frame-back (buildChecks (length b)) S.ConnectRequest (layout q) b
-
 -- the parts of the body: at 0, 8 and 16, which are 6, 14 and 22 of the frame
-pub control-back : (q : ConnectRequest) (r : HpaiAnswer) → Proper q → Hpai.ParsePromise (layout q) r → r ≡ HpaiLaws.accepted (q .«control_endpoint»)
+control-back : (q : ConnectRequest) (r : HpaiAnswer) → Proper q → Hpai.ParsePromise (layout q) r → r ≡ HpaiLaws.accepted (q .«control_endpoint»)
 control-back q r p x =
     let c : List ℕ = Hpai.layout (q .«control_endpoint») in
     let d : List ℕ = Hpai.layout (q .«data_endpoint») in
     let i : List ℕ = Cri.layout (q .cri) in
     HpaiLaws.told-one r (HpaiLaws.accepted (q .«control_endpoint»)) (x ∙ ap Hpai.parseBy01 (append-assoc c d i) ∙ HpaiLaws.reads-back (q .«control_endpoint») (d ++ i) (p .control))
 
-pub data-back : (q : ConnectRequest) (r : HpaiAnswer) → Proper q → Hpai.ParsePromise (drop 8 (layout q)) r → r ≡ HpaiLaws.accepted (q .«data_endpoint»)
+data-back : (q : ConnectRequest) (r : HpaiAnswer) → Proper q → Hpai.ParsePromise (drop 8 (layout q)) r → r ≡ HpaiLaws.accepted (q .«data_endpoint»)
 data-back q r p x =
     let c : List ℕ = Hpai.layout (q .«control_endpoint») in
     let d : List ℕ = Hpai.layout (q .«data_endpoint») in
@@ -51,7 +49,7 @@ data-back q r p x =
     let behind : drop 8 (layout q) ≡ d ++ i = ap (drop 8) (append-assoc c d i) ∙ drop-at c (d ++ i) 8 (HpaiLaws.length-layout (q .«control_endpoint») (p .control .address-4)) in
     HpaiLaws.told-one r (HpaiLaws.accepted (q .«data_endpoint»)) (x ∙ ap Hpai.parseBy01 behind ∙ HpaiLaws.reads-back (q .«data_endpoint») i (p .other))
 
-pub cri-back : (q : ConnectRequest) (r : ConnectionRequestInfoAnswer) → Proper q → Cri.DecodePromise (drop 16 (layout q)) r → r ≡ Info (q .cri)
+cri-back : (q : ConnectRequest) (r : ConnectionRequestInfoAnswer) → Proper q → Cri.DecodePromise (drop 16 (layout q)) r → r ≡ Info (q .cri)
 cri-back q r p x =
     let c : List ℕ = Hpai.layout (q .«control_endpoint») in
     let d : List ℕ = Hpai.layout (q .«data_endpoint») in
@@ -59,3 +57,26 @@ cri-back q r p x =
     let sixteen : length (c ++ d) ≡ 16 =
     length-append c d ∙ omega (arith, HpaiLaws.length-layout (q .«control_endpoint») (p .control .address-4), HpaiLaws.length-layout (q .«data_endpoint») (p .other .address-4)) in
     CriLaws.told-one r (Info (q .cri)) (x ∙ ap Cri.decodeBy01 (drop-at (c ++ d) i 16 sixteen) ∙ CriLaws.reads-back (q .cri) [])
+
+length-layout : (q : ConnectRequest) → Proper q → length (layout q) ≡ 20
+length-layout q p =
+    let c : List ℕ = Hpai.layout (q .«control_endpoint») in
+    let d : List ℕ = Hpai.layout (q .«data_endpoint») in
+    length-append (c ++ d) (Cri.layout (q .cri))
+    ∙ omega (arith, length-append c d, HpaiLaws.length-layout (q .«control_endpoint») (p .control .address-4), HpaiLaws.length-layout (q .«data_endpoint») (p .other .address-4))
+
+-- what is read of its body
+pub record Reads (q : ConnectRequest) (part : List ℕ) : Type 0 where
+  pub control-endpoint : (r : HpaiAnswer) → Hpai.ParsePromise part r → r ≡ HpaiLaws.accepted (q .«control_endpoint»)
+  pub data-endpoint : (r : HpaiAnswer) → Hpai.ParsePromise (drop 8 part) r → r ≡ HpaiLaws.accepted (q .«data_endpoint»)
+  pub request-information : (r : ConnectionRequestInfoAnswer) → Cri.DecodePromise (drop 16 part) r → r ≡ Info (q .cri)
+
+-- built, parsed as a frame, the parts of its body parsed
+pub round-trip : (q : ConnectRequest) (b : List ℕ) (n : ℕ) (after : List ℕ) (p : FrameAnswer) → Proper q
+    → BuildPromise q b (W.Bytes n) after → Frame.ParsePromise after p → Carries S.ConnectRequest 26 n after p (Reads q)
+round-trip q b n after p proper built parsed =
+    carries (buildChecks (length b)) S.ConnectRequest (layout q) b 26 n after p (Reads q) (omega (arith, length-layout q proper)) built parsed (record {
+      control-endpoint = λ r. control-back q r proper;
+      data-endpoint = λ r. data-back q r proper;
+      request-information = λ r. cri-back q r proper;
+    })

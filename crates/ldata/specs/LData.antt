@@ -117,6 +117,6 @@ DestinationGroupPromise f r = toldGroup r ≡ addressIf (bit 128 (f .ctrl2 .raw)
 abbrev pub DestinationIndividualPromise : LDataFields → IndividualAddressAnswer → Type 0
 DestinationIndividualPromise f r = toldIndividual r ≡ addressIf (not (bit 128 (f .ctrl2 .raw))) (f .«destination_raw»)
 
--- by constructor: `Unknown` of the same code is another service
+-- by its name: `Unknown` of the same code is another service
 abbrev pub IsServicePromise : ℕ → LDataFields → Bool → Type 0
 IsServicePromise code f r = r ≡ isNamed (f .apci) code
