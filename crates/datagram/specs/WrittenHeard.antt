@@ -1,0 +1,97 @@
+-- What is written is heard: a request that `TunnelingRequest::build` wrote as that channel, number and cEMI, an acknowledgement that `TunnelingAck::build` wrote as that channel, number and status. The cEMI that is heard is the part that the body's own parse hands out. Assumes nothing.
+use Prim.Native.Nat.{ℕ, _+_, _-_, _≤_}
+use native.Mathlib.Omega.{arith}
+use mathlib.Core.Path.{_≡_, refl, sym, ap, _∙_}
+use mathlib.Core.List.{List, [], _++_}
+use lib.ListN.{length, drop, length-drop}
+use lib.Seq.{length-take-le}
+use lib.Dec.{ltb}
+use borrow.Author.Tests.{ltb-false}
+use Rattle.wire.specs.Told.{done, viewed, verdict}
+use Rattle.wire.specs.ToldLaws.{holds, was-accepted, let-pass}
+use Rattle.wire.specs.Layout.{put, get}
+use Rattle.wire.specs.Parts.{partOf, shown}
+use Rattle.wire.specs.PartLaws.{part-is, part-between, part-part}
+use Rattle.wire.specs.Written.{onto}
+use Rattle.wire.specs.WrittenLaws.{wrote}
+use Rattle.wire.specs.declared.refusals.Refusal.the-variants.{BufferTooSmall}
+use Rattle.wire.specs.declared.refusals.Verdict.the-variants.{Accept}
+use Rattle.wire.specs.declared.refusals.Written.the-variants as W
+use Rattle.constants.specs.Services.{codeOf}
+use Rattle.constants.specs.declared.ServiceType.{ServiceType}
+use Rattle.constants.specs.declared.ServiceType.the-variants.{TunnellingRequest, TunnellingAck}
+use Rattle.header.specs.Header as Header
+use Rattle.frame.specs.Frame as Frame
+use Rattle.frame.specs.Builder.{frame}
+use Rattle.frame.specs.RoundTrip.{back, built, Within, within}
+use Rattle.frame.specs.declared.fields.FrameFields.{FrameFields}
+use Rattle.frame.specs.declared.fields.FrameAnswer.the-variants as F
+use Rattle.tunnelling.specs.Connection as Connection
+use Rattle.tunnelling.specs.ConnectionLaws as ConnectionLaws
+use Rattle.tunnelling.specs.Request as TunnelRequest
+use Rattle.tunnelling.specs.Ack as Acknowledgement
+use Rattle.tunnelling.specs.AckLaws as AckLaws
+use Rattle.tunnelling.specs.declared.connection.ConnectionHeader.{ConnectionHeader}
+use Rattle.tunnelling.specs.declared.request.TunnelingRequest.{TunnelingRequest}
+use Rattle.tunnelling.specs.declared.request.TunnelingRequestAnswer.the-variants as R
+use Rattle.tunnelling.specs.declared.ack.TunnelingAck.{TunnelingAck}
+use Rattle.datagram.specs.Heard.{cemiStart, inFrame, heardBy01}
+use Rattle.datagram.specs.HeardLaws.{framed, requested, acked}
+use Rattle.datagram.specs.declared.Heard.the-variants.{Request, Ack}
+
+-- ---- written, then heard
+
+-- of a frame that stands in a buffer its body is heard, whatever stands behind it
+frame-heard : (s : ServiceType) (body b : List ℕ) → heardBy01 (onto b (frame s body)) ≡ inFrame (codeOf s) (6 + length body) body
+frame-heard s body b =
+    let x = back s body b in
+    sym (framed (onto b (frame s body)) (built s body) (sym (x .fields-back))) ∙ ap (inFrame (codeOf s) (6 + length body)) (x .body-back)
+
+module _ (t : TunnelingRequest) (cemi b : List ℕ) (n : ℕ) (after : List ℕ) (promised : TunnelRequest.BuildPromise t cemi b (W.Bytes n) after) where
+  abbrev h : ConnectionHeader
+  h = t .«connection_header»
+
+  abbrev body : List ℕ
+  body = TunnelRequest.body h cemi
+
+  stands : after ≡ onto b (frame TunnellingRequest body)
+  stands = wrote (TunnelRequest.buildChecks (length cemi) (length b)) (frame TunnellingRequest body) b n after promised .bytes
+
+  pub request-heard : heardBy01 after ≡ Request (h .«channel_id») (h .«sequence_counter») (cemiStart + length cemi)
+  request-heard =
+      let long : 6 + length body ≡ cemiStart + length cemi = omega arith in
+      ap heardBy01 stands ∙ frame-heard TunnellingRequest body b
+      ∙ sym (requested body (6 + length body) t (sym (ConnectionLaws.reads-back h cemi)))
+      ∙ ap (Request (h .«channel_id») (h .«sequence_counter»)) long
+
+  pub request-cemi : partOf after cemiStart (cemiStart + length cemi) ≡ cemi
+  request-cemi =
+      let front : List ℕ = put Header.fields (Header.made TunnellingRequest (length body)) ++ Connection.layout h in
+      let w : List ℕ = frame TunnellingRequest body in
+      ap (λ (l : List ℕ). partOf l cemiStart (cemiStart + length cemi)) stands
+      ∙ part-between front cemi (drop (length w) b) cemiStart (cemiStart + length cemi) refl refl
+
+pub ack-heard : (a : TunnelingAck) (b : List ℕ) (n : ℕ) (after : List ℕ) → Acknowledgement.BuildPromise a b (W.Bytes n) after
+    → heardBy01 after ≡ Ack (a .«connection_header» .«channel_id») (a .«connection_header» .«sequence_counter») (a .status)
+ack-heard a b n after promised =
+    let w : List ℕ = frame TunnellingAck (Acknowledgement.layout a) in
+    ap heardBy01 (wrote (Acknowledgement.buildChecks (length b)) w b n after promised .bytes)
+    ∙ frame-heard TunnellingAck (Acknowledgement.layout a) b
+    ∙ sym (acked (Acknowledgement.layout a) a (sym (AckLaws.reads-back a [])))
+
+-- ---- the two ways to the cEMI: from the datagram, and from the body
+
+pub cemi-same : (s : List ℕ) (f : FrameFields) (body : List ℕ) (q : TunnelingRequest) (cemi : List ℕ)
+    → Frame.ParsePromise s (F.Frame f) → Frame.BodyPartPromise f s body → TunnelRequest.ParsePromise body (R.Request q) → TunnelRequest.CemiPartPromise body cemi
+    → cemi ≡ partOf s cemiStart (f .header .«total_length»)
+cemi-same s f body q cemi p taken parsed handed =
+    let total : ℕ = f .header .«total_length» in
+    let w : Within f s = within f s p in
+    let held : List ℕ = Connection.held (get Connection.fields 0 body) in
+    let stood : verdict (Connection.checks (length body)) ≡ Accept = was-accepted (Connection.checks (length body)) (done held) (TunnelRequest.told (R.Request q)) refl parsed in
+    let four : 4 ≤ length body = ltb-false (length body) 4 (holds [] (ltb (length body) 4) BufferTooSmall [] stood) in
+    let is : body ≡ partOf s 6 total = taken ∙ ap (shown s) (let-pass (Frame.checks (length s) (Header.values (f .header))) (viewed 6 total) (w .stood)) in
+    let long : length body ≡ total - 6 = ap length (is ∙ part-is s 6 total (w .low) (w .high)) ∙ length-take-le (total - 6) (drop 6 s) (omega (arith, length-drop 6 s, w .high)) in
+    handed ∙ ap (shown body) (let-pass (Connection.checks (length body)) (viewed 4 (length body)) stood)
+    ∙ ap (λ (l : List ℕ). partOf l 4 (length l)) is
+    ∙ part-part s 6 4 total (omega (arith, w .low, four, long)) (w .high)
