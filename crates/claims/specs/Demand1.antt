@@ -63,7 +63,7 @@ use Rattle.tunnelling.specs.declared.request.TunnelingRequest.{TunnelingRequest
 use Rattle.tunnelling.specs.declared.request.TunnelingRequestAnswer.{TunnelingRequestAnswer}
 use Rattle.tunnelling.specs.declared.ack.TunnelingAck.{TunnelingAck}
 use Rattle.tunnelling.specs.declared.ack.TunnelingAckAnswer.{TunnelingAckAnswer}
-use Rattle.tunnels.specs.Calls.{Call, outOf}
+use Rattle.tunnel_model.specs.Calls.{Call, outOf}
 use mathlib.Core.Bool.{Bool}
 use Rattle.kip.specs.Judge as Judge
 use Rattle.kip.specs.Line as Line
@@ -90,7 +90,7 @@ use Rattle.table.specs.Compiled as Compiled
 use Rattle.table.specs.declared.calls.Table.{Table}
 use Rattle.table.specs.declared.calls.Called.{Called}
 use Rattle.table.specs.declared.places.Place.{Place}
-use Rattle.tunnels.specs.Eight.{emptyOf}
+use Rattle.tunnel_model.specs.Table.{emptyOf}
 use Rattle.table.specs.Places.{kind}
 use Rattle.image.specs.Image as Image
 use Rattle.host.specs.Reading as Reading
@@ -437,7 +437,7 @@ host-tunneling-ack channel sequence status b =
 
 -- host::knx_table_empty
 pub host-table-empty : (image : List ℕ) (r : KnxWritten) (after : List ℕ) → HostCalled.EmptyPromise image r after → ToldRefuses image r after
-host-table-empty image = tells-refusing (Image.PackPromise (emptyOf kind) image) image (image-pack (emptyOf kind) image)
+host-table-empty image = tells-refusing (Image.PackPromise (emptyOf kind 8) image) image (image-pack (emptyOf kind 8) image)
 
 -- ---- the five calls alike; what a refusal leaves is the output and the image
 

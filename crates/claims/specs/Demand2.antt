@@ -1,7 +1,7 @@
 -- Demand 2 as predicates over any parser and any builder, and that ours have them. A parser is what it tells of each byte string; a builder is what it tells and what its buffer holds afterwards.
 use Prim.Native.Nat.{ℕ, _+_, _≤_}
 use native.Mathlib.Omega.{arith}
-use mathlib.Core.Path.{_≡_}
+use mathlib.Core.Path.{_≡_, sym}
 use mathlib.Core.List.{List, [], _∷_, _++_}
 use lib.ListN.{length, take, drop, getD}
 use Rattle.wire.specs.Told.{Told, done, noneOf}
@@ -62,7 +62,7 @@ use Rattle.header.specs.declared.HeaderAnswer.{HeaderAnswer}
 use Rattle.header.specs.declared.HeaderAnswer.the-variants as H
 use Rattle.frame.specs.Frame as Frame
 use Rattle.frame.specs.Builder as Builder
-use Rattle.frame.specs.RoundTrip.{Back}
+use Rattle.frame.specs.RoundTrip.{Back, Carries}
 use Rattle.frame.specs.RoundTrip as RoundTrip
 use Rattle.frame.specs.declared.fields.FrameFields.{FrameFields}
 use Rattle.frame.specs.declared.fields.FrameAnswer.{FrameAnswer}
@@ -87,6 +87,8 @@ use Rattle.connect.specs.declared.cri.ConnectionRequestInfoAnswer.{ConnectionRe
 use Rattle.connect.specs.declared.cri.ConnectionRequestInfoAnswer.the-variants as I
 use Rattle.connect.specs.declared.request.ConnectRequest.{ConnectRequest}
 use Rattle.connect.specs.declared.response.ConnectResponse.{ConnectResponse}
+use Rattle.connect.specs.declared.channel.ConnectionStateRequest.{ConnectionStateRequest}
+use Rattle.connect.specs.declared.channel.DisconnectRequest.{DisconnectRequest}
 use Rattle.tunnelling.specs.Connection as Connection
 use Rattle.tunnelling.specs.ConnectionLaws as ConnectionLaws
 use Rattle.tunnelling.specs.Request as TunnelReq
@@ -97,10 +99,7 @@ use Rattle.tunnelling.specs.declared.connection.ConnectionHeader.{ConnectionHea
 use Rattle.tunnelling.specs.declared.connection.ConnectionHeaderAnswer.{ConnectionHeaderAnswer}
 use Rattle.tunnelling.specs.declared.connection.ConnectionHeaderAnswer.the-variants as C
 use Rattle.tunnelling.specs.declared.request.TunnelingRequest.{TunnelingRequest}
-use Rattle.tunnelling.specs.declared.request.TunnelingRequestAnswer.{TunnelingRequestAnswer}
-use Rattle.tunnelling.specs.declared.request.TunnelingRequestAnswer.the-variants as R
 use Rattle.tunnelling.specs.declared.ack.TunnelingAck.{TunnelingAck}
-use Rattle.tunnelling.specs.declared.ack.TunnelingAckAnswer.{TunnelingAckAnswer}
 use Rattle.tunnelling.specs.declared.ack.TunnelingAckAnswer.the-variants as A
 
 -- ---- parsers
@@ -222,36 +221,29 @@ ack-has-layout = AckLaws.has-layout
 
 -- ---- services.rs: builders, through the frame's parse and the body's
 
-pub ack-round-trip : (a : TunnelingAck) (b : List ℕ) (n : ℕ) (after : List ℕ) (f : FrameFields) (body : List ℕ) (r : TunnelingAckAnswer)
-    → Ack.BuildPromise a b (W.Bytes n) after → Frame.ParsePromise after (F.Frame f) → Frame.BodyPartPromise f after body → Ack.ParsePromise body r → r ≡ A.Ack a
+-- n bytes were counted and p is what parsing the buffer answered: the count is right, p is the frame, and of its body the record is read back (`Reads`, beside each record)
+
+pub ack-round-trip : (a : TunnelingAck) (b : List ℕ) (n : ℕ) (after : List ℕ) (p : FrameAnswer)
+    → Ack.BuildPromise a b (W.Bytes n) after → Frame.ParsePromise after p → Carries Code.TunnellingAck 11 n after p (AckLaws.Reads a)
 ack-round-trip = AckLaws.round-trip
 
-pub tunnel-request-round-trip : (t : TunnelingRequest) (cemi b : List ℕ) (n : ℕ) (after : List ℕ) (f : FrameFields) (part : List ℕ) (r : TunnelingRequestAnswer) (c : List ℕ)
-    → TunnelReq.BuildPromise t cemi b (W.Bytes n) after → Frame.ParsePromise after (F.Frame f) → Frame.BodyPartPromise f after part
-    → TunnelReq.ParsePromise part r → TunnelReq.CemiPartPromise part c → (r ≡ R.Request t) × (c ≡ cemi)
+pub tunnel-request-round-trip : (t : TunnelingRequest) (cemi b : List ℕ) (n : ℕ) (after : List ℕ) (p : FrameAnswer)
+    → TunnelReq.BuildPromise t cemi b (W.Bytes n) after → Frame.ParsePromise after p → Carries Code.TunnellingRequest (10 + length cemi) n after p (TunnelRequestLaws.Reads t cemi)
 tunnel-request-round-trip = TunnelRequestLaws.round-trip
 
-pub connect-request-back : (q : ConnectRequest) (b : List ℕ) (n : ℕ) (after : List ℕ)
-    → ConnectReq.BuildPromise q b (W.Bytes n) after → (n ≡ 6 + length (ConnectReq.layout q)) × Back Code.ConnectRequest (ConnectReq.layout q) b after
-connect-request-back = ConnectRequestLaws.build-back
+-- both endpoints and the request information
+pub connect-request-round-trip : (q : ConnectRequest) (b : List ℕ) (n : ℕ) (after : List ℕ) (p : FrameAnswer) → ConnectRequestLaws.Proper q
+    → ConnectReq.BuildPromise q b (W.Bytes n) after → Frame.ParsePromise after p → Carries Code.ConnectRequest 26 n after p (ConnectRequestLaws.Reads q)
+connect-request-round-trip = ConnectRequestLaws.round-trip
 
--- the parts of its body at 0, 8 and 16: 6, 14 and 22 of the frame
-pub connect-request-control : (q : ConnectRequest) (r : HpaiAnswer) → ConnectRequestLaws.Proper q → Hpai.ParsePromise (ConnectReq.layout q) r → r ≡ HpaiLaws.accepted (q .«control_endpoint»)
-connect-request-control = ConnectRequestLaws.control-back
+-- channel and endpoint
+pub state-request-round-trip : (q : ConnectionStateRequest) (b : List ℕ) (n : ℕ) (after : List ℕ) (p : FrameAnswer) → HpaiLaws.Proper (q .«control_endpoint»)
+    → Channel.StateBuildPromise q b (W.Bytes n) after → Frame.ParsePromise after p → Carries Code.ConnectionstateRequest 16 n after p (ChannelLaws.Reads (q .«channel_id») (q .«control_endpoint»))
+state-request-round-trip q = ChannelLaws.round-trip Code.ConnectionstateRequest (q .«channel_id») (q .«control_endpoint»)
 
-pub connect-request-data : (q : ConnectRequest) (r : HpaiAnswer) → ConnectRequestLaws.Proper q → Hpai.ParsePromise (drop 8 (ConnectReq.layout q)) r → r ≡ HpaiLaws.accepted (q .«data_endpoint»)
-connect-request-data = ConnectRequestLaws.data-back
-
-pub connect-request-cri : (q : ConnectRequest) (r : ConnectionRequestInfoAnswer) → ConnectRequestLaws.Proper q → Cri.DecodePromise (drop 16 (ConnectReq.layout q)) r → r ≡ I.Info (q .cri)
-connect-request-cri = ConnectRequestLaws.cri-back
-
--- connection state and disconnect, for either service; the endpoint stands at 2 of the body, 8 of the frame
-pub channel-request-back : (s : ServiceType) (channel : ℕ) (h : Hpai) (b : List ℕ) (n : ℕ) (after : List ℕ)
-    → Channel.RequestPromise s channel h b (W.Bytes n) after → (n ≡ 6 + length (Channel.requestLayout channel h)) × Back s (Channel.requestLayout channel h) b after
-channel-request-back = ChannelLaws.request-back
-
-pub channel-request-endpoint : (channel : ℕ) (h : Hpai) (r : HpaiAnswer) → HpaiLaws.Proper h → Hpai.ParsePromise (drop 2 (Channel.requestLayout channel h)) r → r ≡ HpaiLaws.accepted h
-channel-request-endpoint = ChannelLaws.endpoint-back
+pub disconnect-request-round-trip : (q : DisconnectRequest) (b : List ℕ) (n : ℕ) (after : List ℕ) (p : FrameAnswer) → HpaiLaws.Proper (q .«control_endpoint»)
+    → Channel.DisconnectBuildPromise q b (W.Bytes n) after → Frame.ParsePromise after p → Carries Code.DisconnectRequest 16 n after p (ChannelLaws.Reads (q .«channel_id») (q .«control_endpoint»))
+disconnect-request-round-trip q = ChannelLaws.round-trip Code.DisconnectRequest (q .«channel_id») (q .«control_endpoint»)
 
 -- ---- cemi.rs: control fields
 
@@ -289,6 +281,16 @@ ldata-reads = LDataLaws.read crateCount
 -- a control packet is never a group read, although its code is a group read's
 pub control-never-reads : (s : List ℕ) (f : LDataFields) (r : Bool) → LData.ParsePromise s (L.Frame f) → LData.dataByte (getD s 7 0) ≡ false → LData.IsServicePromise 0x000 f r → r ≡ false
 control-never-reads = LDataLaws.control-never
+
+-- the three questions of a service are by its name: a yes says which variant it is
+pub is-group-write : (f : LDataFields) → LData.IsServicePromise 0x080 f true → f .apci ≡ P.GroupValueWrite
+is-group-write f p = PciLaws.named-is (f .apci) 0x080 (sym p)
+
+pub is-group-read : (f : LDataFields) → LData.IsServicePromise 0x000 f true → f .apci ≡ P.GroupValueRead
+is-group-read f p = PciLaws.named-is (f .apci) 0x000 (sym p)
+
+pub is-group-response : (f : LDataFields) → LData.IsServicePromise 0x040 f true → f .apci ≡ P.GroupValueResponse
+is-group-response f p = PciLaws.named-is (f .apci) 0x040 (sym p)
 
 -- ---- the L_Data builder, with no premise but that it answered
 

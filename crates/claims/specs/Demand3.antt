@@ -1,71 +1,162 @@
 -- Demand 3, of the compiled table: tunnels in one table do not disturb each other. Calls carry raw datagrams and whole lent outputs; whose call it is, is computed from the bytes; a trace has number, what is said, count, view, the whole output, and what is left of the channel.
-use Prim.Native.Nat.{ℕ, _≤_}
-use mathlib.Core.Path.{_≡_}
-use mathlib.Core.List.{List}
-use mathlib.Core.Option.{some}
+use Prim.Native.Nat.{ℕ, _+_, _≤_}
+use mathlib.Core.Path.{_≡_, refl, sym, ap, subst, _∙_}
+use mathlib.Core.List.{List, []}
+use mathlib.Core.Option.{none, some}
+use lib.ListN.{length, getD, drop}
+use Rattle.wire.specs.Parts.{partOf}
+use Rattle.datagram.specs.Heard.{cemiStart, heardBy01}
+use Rattle.datagram.specs.declared.Heard.the-variants.{Request, Ack}
+use Rattle.datagram.specs.WrittenHeard as WrittenHeard
+use Rattle.frame.specs.Frame as Frame
+use Rattle.frame.specs.declared.fields.FrameFields.{FrameFields}
+use Rattle.frame.specs.declared.fields.FrameAnswer.the-variants as F
+use Rattle.tunnelling.specs.Request as TunnelRequest
+use Rattle.tunnelling.specs.declared.request.TunnelingRequest.{TunnelingRequest}
+use Rattle.tunnelling.specs.declared.request.TunnelingRequestAnswer.the-variants as R
 use Rattle.tunnel.specs.declared.Tunnel.{Tunnel}
-use Rattle.tablelaws.specs.Firsts.{countOf}
-use Rattle.tablelaws.specs.Store.{Isolates, Opens, reached, tableTrace, loneTrace, callsOf, run}
-use Rattle.tablelaws.specs.Places.{holds}
-use Rattle.tunnels.specs.Calls.{Call}
-use Rattle.tunnels.specs.Eight.{chan, tableOf}
-use Rattle.tunnels.specs.Demand3 as Eight
-use Rattle.tunnels.specs.Opening.{OpenSays}
-use Rattle.tunnels.specs.Opening as Opening
+use Rattle.tunnel_model.specs.Firsts.{countOf}
+use Rattle.tunnel_model.specs.Store.{IsolatesAt, Isolates, Opening, Opens, reached, names, tableTrace, loneTrace, callsOf}
+use Rattle.tunnel_model.specs.Places.{holds}
+use Rattle.tunnel_model.specs.PlacesLaws.{Kept}
+use Rattle.tunnel_model.specs.Calls.{Call, Open, Send, Datagram}
+use Rattle.tunnel_model.specs.Lone.{lone}
+use Rattle.tunnel_model.specs.Table.{chan, tableOf}
+use Rattle.tunnel_model.specs.Demand3 as Model
+use Rattle.tunnel_model.specs.Opening.{OpenSays}
+use Rattle.tunnel_model.specs.Opening as Opening
+use Rattle.tunnel_model.specs.RunLaws as RunLaws
+use Rattle.tunnel_model.specs.Exchange as Exchange
 use Rattle.table.specs.Places.{kind, kindLaws}
-use Rattle.table.specs.Table.{EmptyPromise}
-use Rattle.table.specs.Compiled.{Ran, lastOf, lookIn, seenBy}
+use Rattle.table.specs.Table.{EmptyPromise, CallPromise}
 use Rattle.table.specs.Compiled as Compiled
+use Rattle.table.specs.declared.places.Place.{Place}
 use Rattle.table.specs.declared.calls.Table.{Table}
 use Rattle.table.specs.declared.calls.Called.{Called}
-use lib.ListN.{drop}
-use Rattle.image.specs.Demand3.{imageTable}
+use Rattle.image.specs.Image.{unpacked}
+use Rattle.image.specs.Demand3.{emptyImage, imageTable}
 use Rattle.image.specs.Demand3 as Image
 use Rattle.host.specs.Called as HostCalled
+use Rattle.host.specs.CalledLaws.{empty-is}
 use Rattle.host.specs.Runs as Runs
 use Rattle.host.specs.declared.building.KnxWritten.{KnxWritten}
+use Rattle.host.specs.declared.called.KnxCalled.{KnxCalled}
+
+-- ---- the table
 
 -- from any table that calls reach with B open, until B is closed, B's calls get what a lone tunnel gives that is fed B's calls only
-pub isolates : Isolates chan (tableOf kind)
-isolates = Eight.isolates kind kindLaws
+pub isolates : Isolates chan (tableOf kind 8)
+isolates = Model.isolates kind kindLaws 8
+
+-- and from any table of eight places in which no id stands twice, whether calls reach it or not
+pub isolates-from : (l : List Place) → Kept kind kindLaws 8 l → IsolatesAt chan (tableOf kind 8) l
+isolates-from = Model.isolates-from kind kindLaws 8
 
 -- whatever the other channels do: two lists with the same calls of B give B the same
-pub no-difference : (before calls others : List Call) (b : ℕ) (p : Tunnel) → tableOf kind .look b (reached chan (tableOf kind) before) ≡ some p → callsOf chan b calls ≡ callsOf chan b others
-    → tableTrace chan (tableOf kind) b (reached chan (tableOf kind) before) calls ≡ tableTrace chan (tableOf kind) b (reached chan (tableOf kind) before) others
-no-difference = Eight.no-difference kind kindLaws
+pub no-difference : (before calls others : List Call) (b : ℕ) (p : Tunnel) → tableOf kind 8 .look b (reached chan (tableOf kind 8) before) ≡ some p
+    → callsOf chan (names chan b) calls ≡ callsOf chan (names chan b) others
+    → tableTrace chan (tableOf kind 8) (names chan b) b (reached chan (tableOf kind 8) before) calls ≡ tableTrace chan (tableOf kind 8) (names chan b) b (reached chan (tableOf kind 8) before) others
+no-difference = Model.no-difference kind kindLaws 8
 
 -- opening: refused exactly if eight other ids are open, and else B starts afresh
-pub opens : Opens chan 8 (tableOf kind)
-opens = Eight.opens-as-said kind kindLaws
+pub opens : Opens chan 8 (tableOf kind 8)
+opens = Model.opens-as-said kind kindLaws 8
 
 -- by numbers: 7 exactly if open, 8 exactly if not open and eight other ids are, else 0 and afresh
-pub open-says : (before : List Call) (b : ℕ) → OpenSays kind (reached chan (tableOf kind) before) b
-open-says = Opening.open-says kind kindLaws
+pub open-says : (before : List Call) (b : ℕ) → OpenSays kind 8 (reached chan (tableOf kind 8) before) b
+open-says = Opening.open-says kind 8 kindLaws
 
 -- no id is ever open twice
-pub one-place : (calls : List Call) (b : ℕ) → countOf (holds kind b) (reached chan (tableOf kind) calls) ≤ 1
-one-place = Eight.one-place kind kindLaws
+pub one-place : (calls : List Call) (b : ℕ) → countOf (holds kind b) (reached chan (tableOf kind 8) calls) ≤ 1
+one-place = Model.one-place kind kindLaws 8
 
--- a list of compiled calls, each with what its contract promises, is a run of that table
-pub folds : (t : Table) (calls : List Call) (gave : List (Called × List ℕ)) → Ran t calls gave → lastOf t gave .places ≡ run chan (tableOf kind) (t .places) calls
-folds = Compiled.folds
+-- ---- lists of compiled calls from the compiled empty table, each with what its contract promises
 
--- so compiled calls from the compiled empty table give B what the lone tunnel gives
-pub compiled-isolates : (start : Table) (before calls : List Call) (first then : List (Called × List ℕ)) (b : ℕ) (p : Tunnel)
-    → EmptyPromise start → Ran start before first → Ran (lastOf start first) calls then → lookIn b (lastOf start first) ≡ some p
-    → seenBy b (lastOf start first) calls then ≡ loneTrace chan (some p) (callsOf chan b calls)
-compiled-isolates = Compiled.compiled-isolates
+module _ (start : Table) (begun : EmptyPromise start) (before : List Call) (gs : List Compiled.Given) (ran : Compiled.Ran (start .places) before gs) where
+  -- the places that the last of them left
+  abbrev pub here : List Place
+  here = Compiled.lastOf (start .places) gs
 
--- the same of a table that is lent as a byte image, from the image of the empty table with any bytes behind it
+  -- they are those that 01's table reaches
+  pub folds : here ≡ reached chan (tableOf kind 8) before
+  folds = RunLaws.there chan (tableOf kind 8) Compiled.Given Compiled.given-as (start .places) begun before gs ran
+
+  -- B's calls then give what the lone tunnel gives
+  pub compiled-isolates : (calls : List Call) (hs : List Compiled.Given) (b : ℕ) (p : Tunnel) → Compiled.Ran here calls hs → tableOf kind 8 .look b here ≡ some p
+      → Compiled.seenBy b here calls hs ≡ loneTrace chan (some p) (callsOf chan (names chan b) calls)
+  compiled-isolates = RunLaws.run-isolates chan (tableOf kind 8) Compiled.Given Compiled.given-as (start .places) begun before gs ran isolates
+
+  -- whatever the other channels do
+  pub compiled-no-difference : (calls others : List Call) (hs is : List Compiled.Given) (b : ℕ) (p : Tunnel) → Compiled.Ran here calls hs → Compiled.Ran here others is
+      → tableOf kind 8 .look b here ≡ some p → callsOf chan (names chan b) calls ≡ callsOf chan (names chan b) others
+      → Compiled.seenBy b here calls hs ≡ Compiled.seenBy b here others is
+  compiled-no-difference = RunLaws.run-no-difference chan (tableOf kind 8) Compiled.Given Compiled.given-as (start .places) begun before gs ran isolates
+
+  -- an opening of B, which is not open, is refused exactly if eight other ids are open, and else starts B afresh
+  pub compiled-opens : (t : Table) (r : Called) (b : ℕ) → t .places ≡ here → CallPromise t (Open b) r [] → tableOf kind 8 .look b here ≡ none
+      → Opening chan (tableOf kind 8) 8 b here (Open b) (Compiled.given-as (r, []))
+  compiled-opens t r b at p e =
+      RunLaws.run-opens chan (tableOf kind 8) Compiled.Given Compiled.given-as (start .places) begun before gs ran 8 opens (Open b) (r, []) b
+      (p ∙ ap (λ (l : List Place). tableOf kind 8 .step l (Open b)) at) refl refl e
+
+  -- no id is open twice
+  pub compiled-one-place : (b : ℕ) → countOf (holds kind b) here ≤ 1
+  compiled-one-place b = subst (λ (l : List Place). countOf (holds kind b) l ≤ 1) (sym folds) (one-place before b)
+
+-- ---- a table that is lent as a byte image, from the image of the empty table with any bytes behind it
+
 pub image-isolates : (rest : List ℕ) → Isolates chan (imageTable rest)
 image-isolates = Image.image-isolates
 
 pub image-opens : (rest : List ℕ) → Opens chan 8 (imageTable rest)
 image-opens = Image.image-opens
 
--- so calls from C on an image that `knx_table_empty` wrote give B what the lone tunnel gives
-pub border-isolates : (image start : List ℕ) (w : KnxWritten) (before calls : List Call) (first then : List Runs.Gave) (b : ℕ) (p : Tunnel)
-    → HostCalled.EmptyPromise image w start → w .number ≡ 0 → Runs.Ran start before first → Runs.Ran (Runs.lastOf start first) calls then
-    → Runs.lookIn (drop 40 image) b (Runs.lastOf start first) ≡ some p
-    → Runs.seenBy (drop 40 image) b (Runs.lastOf start first) calls then ≡ loneTrace chan (some p) (callsOf chan b calls)
-border-isolates = Runs.border-isolates
+-- and lists of calls from C on an image that `knx_table_empty` wrote
+module _ (image start : List ℕ) (w : KnxWritten) (emptied : HostCalled.EmptyPromise image w start) (done : w .number ≡ 0) (before : List Call) (gs : List Runs.Given) (ran : Runs.Ran (drop 40 image) start before gs) where
+  -- what stands behind the image
+  abbrev rest : List ℕ
+  rest = drop 40 image
+
+  -- the image that the last of them left
+  abbrev pub left : List ℕ
+  left = Runs.lastOf rest start gs
+
+  begun : start ≡ emptyImage rest
+  begun = empty-is image w start emptied done
+
+  pub border-isolates : (calls : List Call) (hs : List Runs.Given) (b : ℕ) (p : Tunnel) → Runs.Ran rest left calls hs → imageTable rest .look b left ≡ some p
+      → Runs.seenBy rest b left calls hs ≡ loneTrace chan (some p) (callsOf chan (names chan b) calls)
+  border-isolates = RunLaws.run-isolates chan (imageTable rest) Runs.Given Runs.given-as start begun before gs ran (image-isolates rest)
+
+  pub border-no-difference : (calls others : List Call) (hs is : List Runs.Given) (b : ℕ) (p : Tunnel) → Runs.Ran rest left calls hs → Runs.Ran rest left others is
+      → imageTable rest .look b left ≡ some p → callsOf chan (names chan b) calls ≡ callsOf chan (names chan b) others
+      → Runs.seenBy rest b left calls hs ≡ Runs.seenBy rest b left others is
+  border-no-difference = RunLaws.run-no-difference chan (imageTable rest) Runs.Given Runs.given-as start begun before gs ran (image-isolates rest)
+
+  pub border-opens : (r : KnxCalled) (b : ℕ) (after : List ℕ) → HostCalled.OpenPromise left b r after → imageTable rest .look b left ≡ none
+      → Opening chan (imageTable rest) 8 b left (Open b) (Runs.given-as ((r, []), after))
+  border-opens r b after p e =
+      RunLaws.run-opens chan (imageTable rest) Runs.Given Runs.given-as start begun before gs ran 8 (image-opens rest) (Open b) ((r, []), after) b p refl refl e
+
+  pub border-one-place : (b : ℕ) → countOf (holds kind b) (unpacked left) ≤ 1
+  border-one-place b =
+      subst (λ (l : List ℕ). countOf (holds kind b) (unpacked l) ≤ 1) (sym (RunLaws.there chan (imageTable rest) Runs.Given Runs.given-as start begun before gs ran)) (Image.image-one-place rest before b)
+
+-- ---- what one table writes, another hears
+
+-- a request that a send wrote: its channel, its sending number, and its cEMI, whose part is the sent bytes
+pub send-heard : (t : Tunnel) (b : ℕ) (cemi out : List ℕ) → lone t (Send b cemi out) .0 .0 .number ≡ 0
+    → (heardBy01 (lone t (Send b cemi out) .0 .1) ≡ Request b (t .s) (cemiStart + length cemi))
+    × (partOf (lone t (Send b cemi out) .0 .1) cemiStart (cemiStart + length cemi) ≡ cemi)
+send-heard = Exchange.send-heard
+
+-- an acknowledgement of eleven bytes that a request brought about: its channel, its number, and status 0
+pub ack-heard : (t : Tunnel) (channel n end : ℕ) (bytes out : List ℕ) → heardBy01 bytes ≡ Request channel n end → lone t (Datagram bytes out) .0 .0 .number ≡ 0
+    → getD (lone t (Datagram bytes out) .0 .0 .values) 1 0 ≡ 11 → heardBy01 (lone t (Datagram bytes out) .0 .1) ≡ Ack channel n 0
+ack-heard = Exchange.ack-heard
+
+-- the cEMI that is heard is the part that the frame's parse and the body's hand out
+pub cemi-same : (s : List ℕ) (f : FrameFields) (body : List ℕ) (q : TunnelingRequest) (cemi : List ℕ)
+    → Frame.ParsePromise s (F.Frame f) → Frame.BodyPartPromise f s body → TunnelRequest.ParsePromise body (R.Request q) → TunnelRequest.CemiPartPromise body cemi
+    → cemi ≡ partOf s cemiStart (f .header .«total_length»)
+cemi-same = WrittenHeard.cemi-same

@@ -25,11 +25,11 @@ use Rattle.datagram.specs.declared.Heard.{Heard}
 use Rattle.datagram.specs.declared.Heard.the-variants.{Request, Ack, Refused}
 use Rattle.tunnel.specs.Rules.{afresh}
 use Rattle.tunnel.specs.declared.Said.the-variants.{Ignored}
-use Rattle.tablelaws.specs.Firsts.{bit, countOf}
-use Rattle.tablelaws.specs.FirstLaws.{clash}
-use Rattle.tablelaws.specs.Store.{Machine, Seen, Isolates, Others, Opens}
-use Rattle.tunnels.specs.Calls.{Call, Open, Close, Timeout, Send, Datagram, Outcome, outOf, refuses, says}
-use Rattle.tunnels.specs.Eight.{chan, emptyOf, tableOf}
+use Rattle.tunnel_model.specs.Firsts.{bit, countOf}
+use Rattle.tunnel_model.specs.FirstLaws.{clash}
+use Rattle.tunnel_model.specs.Store.{Machine, Seen, Isolates, Others, Opens}
+use Rattle.tunnel_model.specs.Calls.{Call, Open, Close, Timeout, Send, Datagram, Outcome, outOf, refuses, says}
+use Rattle.tunnel_model.specs.Table.{chan, emptyOf, tableOf}
 use Rattle.table.specs.Places.{kind}
 use Rattle.table.specs.declared.places.Place.{Place}
 use Rattle.claims.specs.Examples.{request, room}
@@ -79,7 +79,7 @@ reports-one-more after f =
 -- ---- tables
 
 abbrev plain : Machine chan
-plain = tableOf kind
+plain = tableOf kind 8
 
 -- the end of the second view of a trace, 99 where there is none
 abbrev secondEnd : List (Seen chan) → ℕ
@@ -97,7 +97,7 @@ nap f l (Timeout b) = (plain .step l (Timeout b) .0, (plain .step l (Timeout b) 
 nap f l (Send b cemi out) = (plain .step l (Send b cemi out) .0, (plain .step l (Send b cemi out) .1, f))
 
 abbrev pub drowsy : Machine chan
-drowsy = record { Table = List Place × Bool; start = (emptyOf kind, false); look = λ b t. plain .look b (t .0); step = λ t c. nap (t .1) (t .0) c }
+drowsy = record { Table = List Place × Bool; start = (emptyOf kind 8, false); look = λ b t. plain .look b (t .0); step = λ t c. nap (t .1) (t .0) c }
 
 pub ignores-after-first : Isolates chan drowsy → ⊥
 ignores-after-first f =
@@ -108,7 +108,7 @@ ignores-after-first f =
 abbrev shaken : Heard → List Place → List Place
 shaken (Request channel n end) l = l
 shaken (Ack channel n status) l = l
-shaken (Refused e) l = emptyOf kind
+shaken (Refused e) l = emptyOf kind 8
 
 abbrev shake : List Place → Call → List Place
 shake l (Datagram bytes out) = shaken (heardBy01 bytes) l
@@ -118,7 +118,7 @@ shake l (Timeout b) = l
 shake l (Send b cemi out) = l
 
 abbrev pub touchy : Machine chan
-touchy = record { Table = List Place; start = emptyOf kind; look = plain .look; step = λ l c. (plain .step l c .0, shake (plain .step l c .1) c) }
+touchy = record { Table = List Place; start = emptyOf kind 8; look = plain .look; step = λ l c. (plain .step l c .0, shake (plain .step l c .1) c) }
 
 pub disturbed-by-refused : Isolates chan touchy → ⊥
 disturbed-by-refused f =

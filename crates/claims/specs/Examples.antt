@@ -14,10 +14,10 @@ use Rattle.tunnel.specs.declared.Tunnel.{Tunnel}
 use Rattle.tunnel.specs.declared.Said.the-variants.{Nothing, Repeat, Deliver, Duplicate, Sent}
 use Rattle.tunnel.specs.declared.Arrival.{Arrival}
 use Rattle.tunnel.specs.declared.Arrival.the-variants as A
-use Rattle.tablelaws.specs.Store.{Seen, run, reached, tableTrace, loneTrace, callsOf, seen}
-use Rattle.tunnels.specs.Calls.{Call, Open, Close, Timeout, Send, Datagram, saidOf, refuses, says}
-use Rattle.tunnels.specs.Lone.{arrived}
-use Rattle.tunnels.specs.Eight.{chan, tableOf}
+use Rattle.tunnel_model.specs.Store.{Seen, run, reached, names, tableTrace, loneTrace, callsOf, seen}
+use Rattle.tunnel_model.specs.Calls.{Call, Open, Close, Timeout, Send, Datagram, saidOf, refuses, says}
+use Rattle.tunnel_model.specs.Lone.{arrived}
+use Rattle.tunnel_model.specs.Table.{chan, tableOf}
 use Rattle.table.specs.Places.{kind}
 use Rattle.table.specs.declared.places.Place.{Place}
 use Rattle.claims.specs.Demand3.{isolates}
@@ -65,11 +65,11 @@ abbrev at : ℕ → ℕ → Option Tunnel
 at r s = some (record { r = r; s = s; w = Idle })
 
 -- the premise of `isolates` is met
-pub is-open : tableOf kind .look 21 (reached chan (tableOf kind) before) ≡ some afresh
+pub is-open : tableOf kind 8 .look 21 (reached chan (tableOf kind 8) before) ≡ some afresh
 is-open = refl
 
 -- what the table gives 21: the view 10 to 12, eleven bytes written, the twelfth as it was; and nothing after it is closed
-pub trace : tableTrace chan (tableOf kind) 21 (reached chan (tableOf kind) before) calls
+pub trace : tableTrace chan (tableOf kind 8) (names chan 21) 21 (reached chan (tableOf kind 8) before) calls
     ≡ ((record { number = 0; values = saidOf Deliver ∷ 11 ∷ []; start = 10; end = 12 }, acked), at 1 0)
     ∷ ((done (saidOf Duplicate ∷ 11 ∷ []), acked), at 1 0)
     ∷ (refuses BufferTooSmall [], at 1 0)
@@ -81,18 +81,18 @@ pub trace : tableTrace chan (tableOf kind) 21 (reached chan (tableOf kind) befor
     ∷ []
 trace = refl
 
-pub as-alone : tableTrace chan (tableOf kind) 21 (reached chan (tableOf kind) before) calls ≡ loneTrace chan (some afresh) (callsOf chan 21 calls)
+pub as-alone : tableTrace chan (tableOf kind 8) (names chan 21) 21 (reached chan (tableOf kind 8) before) calls ≡ loneTrace chan (some afresh) (callsOf chan (names chan 21) calls)
 as-alone = isolates before calls 21 afresh is-open
 
 -- ---- each waiting state
 
-pub idle : tableOf kind .look 21 (reached chan (tableOf kind) (Open 21 ∷ [])) ≡ some afresh
+pub idle : tableOf kind 8 .look 21 (reached chan (tableOf kind 8) (Open 21 ∷ [])) ≡ some afresh
 idle = refl
 
-pub waits-first : tableOf kind .look 21 (reached chan (tableOf kind) (Open 21 ∷ Send 21 [] room ∷ [])) ≡ some (record { r = 0; s = 0; w = First })
+pub waits-first : tableOf kind 8 .look 21 (reached chan (tableOf kind 8) (Open 21 ∷ Send 21 [] room ∷ [])) ≡ some (record { r = 0; s = 0; w = First })
 waits-first = refl
 
-pub waits-second : tableOf kind .look 21 (reached chan (tableOf kind) (Open 21 ∷ Send 21 [] room ∷ Timeout 21 ∷ [])) ≡ some (record { r = 0; s = 0; w = Second })
+pub waits-second : tableOf kind 8 .look 21 (reached chan (tableOf kind 8) (Open 21 ∷ Send 21 [] room ∷ Timeout 21 ∷ [])) ≡ some (record { r = 0; s = 0; w = Second })
 waits-second = refl
 
 -- ---- r = 255
@@ -102,30 +102,30 @@ unfoldable pub asked : ℕ → List Call
 asked zero = Open 21 ∷ []
 asked (suc k) = asked k ++ Datagram (request 21 k) room ∷ []
 
-run-on : (l : List Place) (cs ds : List Call) → run chan (tableOf kind) l (cs ++ ds) ≡ run chan (tableOf kind) (run chan (tableOf kind) l cs) ds
+run-on : (l : List Place) (cs ds : List Call) → run chan (tableOf kind 8) l (cs ++ ds) ≡ run chan (tableOf kind 8) (run chan (tableOf kind 8) l cs) ds
 run-on l [] ds = refl
-run-on l (c ∷ cs) ds = run-on (tableOf kind .step l c .1) cs ds
+run-on l (c ∷ cs) ds = run-on (tableOf kind 8 .step l c .1) cs ds
 
 abbrev lastSeen : List (Seen chan) → Option Tunnel
 lastSeen [] = none
 lastSeen (x ∷ xs) = x .1
 
-climbs : (k : ℕ) → k < 256 → tableOf kind .look 21 (reached chan (tableOf kind) (asked k)) ≡ at k 0
+climbs : (k : ℕ) → k < 256 → tableOf kind 8 .look 21 (reached chan (tableOf kind 8) (asked k)) ≡ at k 0
 unfolding asked
 climbs zero h = refl
 climbs (suc k) h =
     let p : Tunnel = record { r = k; s = 0; w = Idle } in
-    let l : List Place = reached chan (tableOf kind) (asked k) in
+    let l : List Place = reached chan (tableOf kind 8) (asked k) in
     let c : Call = Datagram (request 21 k) room in
-    let there : tableOf kind .look 21 l ≡ some p = climbs k (omega arith) in
-    let x : Seen chan = (tableOf kind .step l c .0, tableOf kind .look 21 (tableOf kind .step l c .1)) in
+    let there : tableOf kind 8 .look 21 l ≡ some p = climbs k (omega arith) in
+    let x : Seen chan = (tableOf kind 8 .step l c .0, tableOf kind 8 .look 21 (tableOf kind 8 .step l c .1)) in
     let arrives : arrivalOf p k ≡ A.Deliver = simp (eq-eqb k k refl) in
     let next : (k + 1) % 256 ≡ suc k = omega arith in
-    ap (tableOf kind .look 21) (run-on (tableOf kind .start) (asked k) (c ∷ []))
-    ∙ ap (λ (o : Option Tunnel). lastSeen (seen chan (tableOf kind) o true x [])) (sym there)
+    ap (tableOf kind 8 .look 21) (run-on (tableOf kind 8 .start) (asked k) (c ∷ []))
+    ∙ ap (λ (o : Option Tunnel). lastSeen (seen chan o true x [])) (sym there)
     ∙ ap lastSeen (isolates (asked k) (c ∷ []) 21 p there)
     ∙ ap (λ (x : Arrival). arrived x p 21 k 12 room .1) arrives
     ∙ ap (λ (r : ℕ). at r 0) next
 
-pub r-255 : tableOf kind .look 21 (reached chan (tableOf kind) (asked 255)) ≡ at 255 0
+pub r-255 : tableOf kind 8 .look 21 (reached chan (tableOf kind 8) (asked 255)) ≡ at 255 0
 r-255 = climbs 255 (omega arith)

@@ -21,10 +21,10 @@ use Rattle.frame.specs.RoundTrip.{built}
 use Rattle.frame.specs.declared.fields.FrameAnswer.the-variants.{Frame}
 use Rattle.tunnel.specs.declared.Wait.{Wait}
 use Rattle.tunnel.specs.declared.Said.the-variants.{Deliver}
-use Rattle.tablelaws.specs.Store.{step}
-use Rattle.tunnels.specs.Calls.{Datagram, saidOf, refuses}
-use Rattle.tunnels.specs.Lone.{lone}
-use Rattle.tunnels.specs.Eight.{chan, eightOf}
+use Rattle.tunnel_model.specs.Store.{step}
+use Rattle.tunnel_model.specs.Calls.{Datagram, saidOf, refuses}
+use Rattle.tunnel_model.specs.Lone.{lone}
+use Rattle.tunnel_model.specs.Table.{chan, storeOf}
 use Rattle.table.specs.Places.{kind}
 use Rattle.table.specs.declared.places.Place.{Place}
 use Rattle.claims.specs.Examples.{request, room}
@@ -75,7 +75,7 @@ pub record P : Type 0 where
   pub total-as-header : asHeader (0x06 ∷ 0x10 ∷ 0x04 ∷ 0x20 ∷ 0x00 ∷ 0x05 ∷ []) ≡ 0
   pub bare-frame : Frame.parseBy01 bare ≡ Frame.told (Frame (built TunnellingRequest []))
   pub bare-body : Frame.bodyBy01 (built TunnellingRequest []) bare ≡ viewed 6 6
-  pub bare-datagram : (l : List Place) (out : List ℕ) → step chan (eightOf kind) l (Datagram bare out) ≡ (refuses BufferTooSmall out, l)
+  pub bare-datagram : (l : List Place) (out : List ℕ) → step chan (storeOf kind) l (Datagram bare out) ≡ (refuses BufferTooSmall out, l)
   pub write-2A : asLData (ldata 3 (0x00 ∷ 0x80 ∷ 0x2A ∷ [])) ≡ LData.told (L.Frame (groupWrite 3))
   pub write-2A-data : dataIn (groupWrite 3) (ldata 3 (0x00 ∷ 0x80 ∷ 0x2A ∷ [])) ≡ 0x2A ∷ []
   pub write-L4 : asLData (ldata 4 (0x00 ∷ 0x80 ∷ 0x2A ∷ [])) .number ≡ 2

@@ -10,11 +10,11 @@ use Rattle.wire.specs.declared.refusals.Refusal.the-variants.{BufferTooSmall, N
 use Rattle.tunnel.specs.declared.Wait.{Wait}
 use Rattle.tunnel.specs.declared.Wait.the-variants.{Idle, First, Second}
 use Rattle.tunnel.specs.declared.Said.the-variants.{Repeat, GiveUp, Duplicate, OutOfOrder, Sent, Ignored}
-use Rattle.tablelaws.specs.Firsts.{isNone}
-use Rattle.tablelaws.specs.Store.{step}
-use Rattle.tunnels.specs.Calls.{Call, Open, Close, Timeout, Send, Datagram, Outcome, saidOf, refuses, says}
-use Rattle.tunnels.specs.Lone.{After, lone}
-use Rattle.tunnels.specs.Eight.{chan, eightOf, emptyOf}
+use Rattle.tunnel_model.specs.Firsts.{isNone}
+use Rattle.tunnel_model.specs.Store.{step}
+use Rattle.tunnel_model.specs.Calls.{Call, Open, Close, Timeout, Send, Datagram, Outcome, saidOf, refuses, says}
+use Rattle.tunnel_model.specs.Lone.{After, lone}
+use Rattle.tunnel_model.specs.Table.{chan, storeOf, emptyOf}
 use Rattle.table.specs.Places.{kind}
 use Rattle.table.specs.declared.places.Hold.the-variants.{Free, Held}
 use Rattle.table.specs.declared.places.Place.{Place}
@@ -22,10 +22,10 @@ use Rattle.claims.specs.Examples.{request, ack, room}
 
 -- what a call on a table gives, and its number alone
 abbrev on : List Place → Call → Outcome × List Place
-on l c = step chan (eightOf kind) l c
+on l c = step chan (storeOf kind) l c
 
 abbrev onEmpty : Call → ℕ
-onEmpty c = on (emptyOf kind) c .0 .0 .number
+onEmpty c = on (emptyOf kind 8) c .0 .0 .number
 
 -- a lone tunnel with r = 0, s = 0
 abbrev alone : Wait → Call → Outcome
@@ -79,7 +79,7 @@ pub record TunnelRows : Type 0 where
   -- a channel that is not open: 9, and a filled output stays as it was
   pub close-closed : onEmpty (Close 21) ≡ 9
   pub timeout-closed : onEmpty (Timeout 21) ≡ 9
-  pub request-closed : on (emptyOf kind) (Datagram (request 21 0) room) .0 ≡ refuses NotOpen room
+  pub request-closed : on (emptyOf kind 8) (Datagram (request 21 0) room) .0 ≡ refuses NotOpen room
   -- an id that stands twice means its first place: closed once, it is still open
   pub twice-closed : on twice (Close 21) .1 ≡ record { hold = Free } ∷ holding 21 ∷ []
   pub twice-still-open : on (on twice (Close 21) .1) (Open 21) .0 .0 .number ≡ 7

@@ -71,7 +71,7 @@ use Rattle.datagram.specs.Heard as Heard
 use Rattle.datagram.specs.HeardLaws as HeardLaws
 use Rattle.tunnel.specs.Rules as Rules
 use Rattle.tunnel.specs.declared.Tunnel.{Tunnel}
-use Rattle.tunnels.specs.Calls.{Call, Open, Close, Timeout, Send, Datagram}
+use Rattle.tunnel_model.specs.Calls.{Call, Open, Close, Timeout, Send, Datagram}
 use Rattle.digits.specs.Digits as Digits
 use Rattle.kip.specs.Capture as Capture
 use Rattle.kip.specs.Judge as Judge

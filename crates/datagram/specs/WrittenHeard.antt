@@ -47,37 +47,42 @@ frame-heard s body b =
     let x = back s body b in
     sym (framed (onto b (frame s body)) (built s body) (sym (x .fields-back))) ∙ ap (inFrame (codeOf s) (6 + length body)) (x .body-back)
 
-module _ (t : TunnelingRequest) (cemi b : List ℕ) (n : ℕ) (after : List ℕ) (promised : TunnelRequest.BuildPromise t cemi b (W.Bytes n) after) where
-  abbrev h : ConnectionHeader
-  h = t .«connection_header»
-
+-- a request's bytes in a buffer
+module _ (h : ConnectionHeader) (cemi b : List ℕ) where
   abbrev body : List ℕ
   body = TunnelRequest.body h cemi
 
-  stands : after ≡ onto b (frame TunnellingRequest body)
-  stands = wrote (TunnelRequest.buildChecks (length cemi) (length b)) (frame TunnellingRequest body) b n after promised .bytes
-
-  pub request-heard : heardBy01 after ≡ Request (h .«channel_id») (h .«sequence_counter») (cemiStart + length cemi)
-  request-heard =
+  pub request-stands : heardBy01 (onto b (frame TunnellingRequest body)) ≡ Request (h .«channel_id») (h .«sequence_counter») (cemiStart + length cemi)
+  request-stands =
       let long : 6 + length body ≡ cemiStart + length cemi = omega arith in
-      ap heardBy01 stands ∙ frame-heard TunnellingRequest body b
-      ∙ sym (requested body (6 + length body) t (sym (ConnectionLaws.reads-back h cemi)))
+      frame-heard TunnellingRequest body b
+      ∙ sym (requested body (6 + length body) (record { «connection_header» = h }) (sym (ConnectionLaws.reads-back h cemi)))
       ∙ ap (Request (h .«channel_id») (h .«sequence_counter»)) long
 
-  pub request-cemi : partOf after cemiStart (cemiStart + length cemi) ≡ cemi
-  request-cemi =
+  pub cemi-stands : partOf (onto b (frame TunnellingRequest body)) cemiStart (cemiStart + length cemi) ≡ cemi
+  cemi-stands =
       let front : List ℕ = put Header.fields (Header.made TunnellingRequest (length body)) ++ Connection.layout h in
-      let w : List ℕ = frame TunnellingRequest body in
-      ap (λ (l : List ℕ). partOf l cemiStart (cemiStart + length cemi)) stands
-      ∙ part-between front cemi (drop (length w) b) cemiStart (cemiStart + length cemi) refl refl
+      part-between front cemi (drop (length (frame TunnellingRequest body)) b) cemiStart (cemiStart + length cemi) refl refl
+
+-- an acknowledgement's bytes in a buffer
+pub ack-stands : (a : TunnelingAck) (b : List ℕ)
+    → heardBy01 (onto b (frame TunnellingAck (Acknowledgement.layout a))) ≡ Ack (a .«connection_header» .«channel_id») (a .«connection_header» .«sequence_counter») (a .status)
+ack-stands a b = frame-heard TunnellingAck (Acknowledgement.layout a) b ∙ sym (acked (Acknowledgement.layout a) a (sym (AckLaws.reads-back a [])))
+
+-- what the builders wrote
+pub request-heard : (t : TunnelingRequest) (cemi b : List ℕ) (n : ℕ) (after : List ℕ) → TunnelRequest.BuildPromise t cemi b (W.Bytes n) after
+    → (heardBy01 after ≡ Request (t .«connection_header» .«channel_id») (t .«connection_header» .«sequence_counter») (cemiStart + length cemi))
+    × (partOf after cemiStart (cemiStart + length cemi) ≡ cemi)
+request-heard t cemi b n after promised =
+    let h : ConnectionHeader = t .«connection_header» in
+    let w : List ℕ = frame TunnellingRequest (TunnelRequest.body h cemi) in
+    let stands : after ≡ onto b w = wrote (TunnelRequest.buildChecks (length cemi) (length b)) w b n after promised .bytes in
+    (ap heardBy01 stands ∙ request-stands h cemi b, ap (λ (l : List ℕ). partOf l cemiStart (cemiStart + length cemi)) stands ∙ cemi-stands h cemi b)
 
 pub ack-heard : (a : TunnelingAck) (b : List ℕ) (n : ℕ) (after : List ℕ) → Acknowledgement.BuildPromise a b (W.Bytes n) after
     → heardBy01 after ≡ Ack (a .«connection_header» .«channel_id») (a .«connection_header» .«sequence_counter») (a .status)
 ack-heard a b n after promised =
-    let w : List ℕ = frame TunnellingAck (Acknowledgement.layout a) in
-    ap heardBy01 (wrote (Acknowledgement.buildChecks (length b)) w b n after promised .bytes)
-    ∙ frame-heard TunnellingAck (Acknowledgement.layout a) b
-    ∙ sym (acked (Acknowledgement.layout a) a (sym (AckLaws.reads-back a [])))
+    ap heardBy01 (wrote (Acknowledgement.buildChecks (length b)) (frame TunnellingAck (Acknowledgement.layout a)) b n after promised .bytes) ∙ ack-stands a b
 
 -- ---- the two ways to the cEMI: from the datagram, and from the body
 

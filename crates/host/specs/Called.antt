@@ -8,8 +8,8 @@ use lib.Dec.{eqb}
 use Rattle.wire.specs.Told.{Told, refused}
 use Rattle.wire.specs.Written.{leaves, room}
 use Rattle.wire.specs.declared.refusals.Refusal.the-variants.{BufferTooSmall}
-use Rattle.tunnels.specs.Calls.{Call, Open, Close, Timeout, Send, Datagram}
-use Rattle.tunnels.specs.Eight.{emptyOf}
+use Rattle.tunnel_model.specs.Calls.{Call, Open, Close, Timeout, Send, Datagram}
+use Rattle.tunnel_model.specs.Table.{emptyOf}
 use Rattle.table.specs.Places.{kind}
 use Rattle.table.specs.Table as Table
 use Rattle.table.specs.declared.calls.Called.{Called}
@@ -43,7 +43,7 @@ DatagramPromise image bytes before r after out = CallPromise image (Datagram byt
 
 -- the image of the empty table
 abbrev pub EmptyPromise : List ℕ → KnxWritten → List ℕ → Type 0
-EmptyPromise image r after = Tells (PackPromise (emptyOf kind) image) r after
+EmptyPromise image r after = Tells (PackPromise (emptyOf kind 8) image) r after
 
 -- ---- the code's parts
 

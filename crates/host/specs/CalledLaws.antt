@@ -14,16 +14,16 @@ use Rattle.wire.specs.declared.refusals.Written.{Written}
 use Rattle.wire.specs.declared.refusals.Written.the-variants as W
 use Rattle.wire.specs.Refusing.{Zeros}
 use Rattle.wire.specs.Written.{onto, leaves, room}
-use Rattle.tunnels.specs.Calls.{Call, Outcome, outOf}
+use Rattle.tunnel_model.specs.Calls.{Call, Outcome, outOf}
 use Rattle.table.specs.Table as Table
 use Rattle.table.specs.declared.places.Place.{Place}
 use Rattle.table.specs.declared.calls.Table.{Table}
 use Rattle.table.specs.declared.calls.Called.{Called}
-use Rattle.tablelaws.specs.Store.{step}
-use Rattle.tunnels.specs.Eight.{chan, eightOf, emptyOf}
+use Rattle.tunnel_model.specs.Store.{step}
+use Rattle.tunnel_model.specs.Table.{chan, storeOf, emptyOf}
 use Rattle.table.specs.Places.{kind}
 use Rattle.image.specs.Image.{packed, unpacked, UnpackPromise, PackPromise, kept, stepIn}
-use Rattle.image.specs.ImageLaws.{forty, step-long, on-small, on-enough, Left, image-leaves, pack-one}
+use Rattle.image.specs.ImageLaws.{forty, in-long, on-small, on-enough, Left, image-leaves, pack-one}
 use Rattle.host.specs.Called.{told, CallPromise, KeepPromise, TooSmallPromise, EmptyPromise}
 use Rattle.image.specs.Demand3.{emptyImage}
 use Rattle.host.specs.Building.{WrittenPromise}
@@ -40,8 +40,8 @@ pub kept-call : (image : List ℕ) (c : Call) (t : Table) (q : Called) (out : Li
     → UnpackPromise image t → Table.CallPromise t c q out → KeepPromise q image r after → CallPromise image c r after out
 kept-call image c t q out r after enough u p k =
     let l : List Place = q .table .places in
-    let stepped : Table.calledAs q out ≡ stepIn image c = p ∙ ap (λ (m : List Place). step chan (eightOf kind) m c) u in
-    let long : length (packed l) ≡ 40 = forty l (ap (λ (x : Outcome × List Place). length (x .1)) stepped ∙ step-long (unpacked image) c) in
+    let stepped : Table.calledAs q out ≡ stepIn image c = p ∙ ap (λ (m : List Place). step chan (storeOf kind) m c) u in
+    let long : length (packed l) ≡ 40 = forty l (ap (λ (x : Outcome × List Place). length (x .1)) stepped ∙ in-long image c) in
     let fits : leaves (room (length (packed l)) (length image) ∷ []) (packed l) image ≡ onto image (packed l) = simp (le-ltb (length image) (length (packed l)) (omega (arith, long))) in
     ap (λ (x : Told). ((x, out), after)) (k .0)
     ∙ ap (λ (s : List ℕ). ((Table.told q, out), s)) (k .1 ∙ ap (λ (s : List ℕ). cond (eqb (q .number) 0) s image) fits)
@@ -52,8 +52,8 @@ kept-call image c t q out r after enough u p k =
 pub empty-is : (image : List ℕ) (r : KnxWritten) (after : List ℕ) → EmptyPromise image r after → r .number ≡ 0 → after ≡ emptyImage (drop 40 image)
 empty-is image r after x z = go (x .answer) (x .keeps) (x .tells)
   where
-    go : (w : Written) → PackPromise (emptyOf kind) image w after → WrittenPromise w r → after ≡ emptyImage (drop 40 image)
-    go (W.Bytes n) k t = wrote (room 40 (length image) ∷ []) (packed (emptyOf kind)) image n after k .bytes
+    go : (w : Written) → PackPromise (emptyOf kind 8) image w after → WrittenPromise w r → after ≡ emptyImage (drop 40 image)
+    go (W.Bytes n) k t = wrote (room 40 (length image) ∷ []) (packed (emptyOf kind 8)) image n after k .bytes
     go (W.Refused e) k t = absurd (never-done e (sym (ap (λ (u : Told). u .number) t) ∙ z))
 
 -- ---- no second answer: of the answer, the image and the output
@@ -75,10 +75,10 @@ call-one image c r q after later out last a b =
     )
 
 pub empty-one : (image : List ℕ) (r q : KnxWritten) (after later : List ℕ) → EmptyPromise image r after → EmptyPromise image q later → (r ≡ q) × (after ≡ later)
-empty-one image = tells-one (PackPromise (emptyOf kind) image) (pack-one (emptyOf kind) image)
+empty-one image = tells-one (PackPromise (emptyOf kind 8) image) (pack-one (emptyOf kind 8) image)
 
 -- ---- demand 1: zeros, and neither the image nor the output is changed
 
 pub call-refusing : (image : List ℕ) (c : Call) (r : KnxCalled) (after out : List ℕ) → CallPromise image c r after out → (r .number ≡ 0 → ⊥)
     → Zeros (told r) × (out ≡ outOf c) × (after ≡ image)
-call-refusing image c r after out p = subst (Left image c) (sym p) (image-leaves image c)
+call-refusing image c r after out p n = let x = subst (Left image c) (sym p) (image-leaves image c) n in (x .0 .0, x .0 .1, x .1)

@@ -1,6 +1,6 @@
 // The calls on a table of eight tunnels, over the byte image that the host lends.
 ghost use mathlib.Core.Path.{_≡_};
-ghost use Rattle.tunnels.specs.Calls.{saidOf};
+ghost use Rattle.tunnel_model.specs.Calls.{saidOf};
 ghost use Rattle.host.specs.Called.{KeepPromise, EmptyPromise, TooSmallPromise, OpenPromise, ClosePromise, TimeoutPromise, SendPromise, DatagramPromise};
 use crate::building;
 use crate::building::KnxWritten;

@@ -11,9 +11,9 @@ use Rattle.wire.specs.declared.refusals.Refusal.the-variants.{BufferTooSmall}
 use Rattle.wire.specs.declared.refusals.Written.{Written}
 use Rattle.tunnel.specs.declared.Wait.{Wait}
 use Rattle.tunnel.specs.declared.Wait.the-variants.{Idle, First, Second}
-use Rattle.tablelaws.specs.Store.{step}
-use Rattle.tunnels.specs.Calls.{Call, Outcome, outOf, refuses}
-use Rattle.tunnels.specs.Eight.{chan, eightOf}
+use Rattle.tunnel_model.specs.Store.{step}
+use Rattle.tunnel_model.specs.Calls.{Call, Outcome, outOf, refuses}
+use Rattle.tunnel_model.specs.Table.{chan, storeOf}
 use Rattle.table.specs.Places.{kind}
 use Rattle.table.specs.declared.places.Hold.{Hold}
 use Rattle.table.specs.declared.places.Hold.the-variants.{Free, Held}
@@ -79,7 +79,7 @@ kept image x = (x .0, cond (eqb (x .0 .0 .number) 0) (onto image (packed (x .1))
 
 -- one step of 01's table on the table that the first 40 bytes hold
 abbrev pub stepIn : List ℕ → Call → Outcome × List Place
-stepIn image c = step chan (eightOf kind) (unpacked image) c
+stepIn image c = step chan (storeOf kind) (unpacked image) c
 
 -- an image below 40 bytes (1), before all else; then that step
 abbrev pub onImage : List ℕ → Call → Outcome × List ℕ

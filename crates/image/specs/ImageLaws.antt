@@ -4,7 +4,6 @@ use native.Mathlib.Numerals.{add-one}
 use native.Mathlib.Omega.{arith}
 use mathlib.Core.Path.{_≡_, refl, sym, ap, _∙_}
 use mathlib.Core.Bool.{Bool, true, false, cond}
-use mathlib.Core.Option.{Option, none, some}
 use mathlib.Core.List.{List, [], _∷_, _++_, append-assoc}
 use lib.ListN.{length, take, drop, getD, length-append}
 use lib.Dec.{eqb, ltb}
@@ -15,23 +14,15 @@ use Rattle.wire.specs.Layout.{get, copied}
 use Rattle.wire.specs.Written.{onto}
 use Rattle.wire.specs.ToldLaws.{same}
 use Rattle.wire.specs.WrittenLaws.{write-one}
-use Rattle.wire.specs.Refusing.{Zeros}
 use Rattle.wire.specs.declared.refusals.Refusal.the-variants.{BufferTooSmall}
 use Rattle.wire.specs.declared.refusals.Written.{Written}
-use Rattle.tunnel.specs.Rules.{afresh}
-use Rattle.tunnel.specs.declared.Tunnel.{Tunnel}
 use Rattle.tunnel.specs.declared.Wait.{Wait}
 use Rattle.tunnel.specs.declared.Wait.the-variants.{Idle, First, Second}
-use Rattle.tablelaws.specs.Firsts.{firstOf}
-use Rattle.tablelaws.specs.FirstLaws.{put-length}
-use Rattle.tablelaws.specs.Store.{step, stepOn, stepAt, absent, opened}
-use Rattle.tablelaws.specs.Places.{holds, free, stateIn, placed}
-use Rattle.tunnels.specs.Calls.{Call, Outcome, named, opens, outOf, refuses}
-use Rattle.tunnels.specs.Lone.{lone}
-use Rattle.tunnels.specs.Refusing.{refusal-zeros}
-use Rattle.tunnels.specs.Eight.{chan, eightOf}
-use Rattle.table.specs.Places.{kind}
-use Rattle.table.specs.Compiled.{step-leaves}
+use Rattle.tunnel_model.specs.PlacesLaws.{step-long}
+use Rattle.tunnel_model.specs.Calls.{Call, Outcome, outOf, refuses}
+use Rattle.tunnel_model.specs.Refusing.{IsRefusal, Clean, refusal-zeros, table-leaves}
+use Rattle.tunnel_model.specs.Table.{chan, storeOf}
+use Rattle.table.specs.Places.{kind, kindLaws}
 use Rattle.table.specs.declared.calls.Table.{Table}
 use Rattle.table.specs.declared.places.Hold.{Hold}
 use Rattle.table.specs.declared.places.Hold.the-variants.{Free, Held}
@@ -96,24 +87,8 @@ packed-all l i image h = ap (λ (m : List Place). onto image (packed m)) (take-a
 -- ---- a call on an image
 
 -- a call changes no number of places
-pub step-long : (l : List Place) (c : Call) → length (step chan (eightOf kind) l c .1) ≡ length l
-step-long l c = on (named c)
-  where
-    in-full : (b : ℕ) (f : Bool) → length (opened chan (eightOf kind) f b l c .1) ≡ length l
-    in-full b true = refl
-    in-full b false = put-length (free kind) (record { hold = Held b afresh }) l
-
-    in-absent : (b : ℕ) (o : Bool) → length (absent chan (eightOf kind) o b l c .1) ≡ length l
-    in-absent b true = in-full b (eightOf kind .full c l)
-    in-absent b false = refl
-
-    at : (b : ℕ) (o : Option Tunnel) → length (stepAt chan (eightOf kind) o b l c .1) ≡ length l
-    at b none = in-absent b (opens c)
-    at b (some t) = put-length (holds kind b) (placed kind b (lone t c .1)) l
-
-    on : (o : Option ℕ) → length (stepOn chan (eightOf kind) o l c .1) ≡ length l
-    on none = refl
-    on (some b) = at b (stateIn kind (firstOf (holds kind b) l))
+pub in-long : (image : List ℕ) (c : Call) → length (stepIn image c .1) ≡ 8
+in-long image c = step-long chan kind (storeOf kind .full) (unpacked image) c
 
 pub on-small : (image : List ℕ) (c : Call) → length image < 40 → onImage image c ≡ (refuses BufferTooSmall (outOf c), image)
 on-small image c h = simp (lt-ltb (length image) 40 h)
@@ -138,14 +113,14 @@ kept-holds image x room eight stays = go (eqb (x .0 .0 .number) 0) refl
 pub image-step : (image : List ℕ) (c : Call) → 40 ≤ length image
     → (onImage image c .0 ≡ stepIn image c .0) × (unpacked (onImage image c .1) ≡ stepIn image c .1) × (40 ≤ length (onImage image c .1))
 image-step image c room =
-    let k = kept-holds image (stepIn image c) room (step-long (unpacked image) c) (λ n. step-leaves (unpacked image) c n .2) in
+    let k = kept-holds image (stepIn image c) room (in-long image c) (λ n. table-leaves kind kindLaws (unpacked image) c n .1) in
     rw (on-enough image c room) (refl, k .0, k .1)
 
 -- ---- refusals, and no second answer
 
 -- a number other than 0: zeros, and neither the output nor the image is changed
 abbrev pub Left : List ℕ → Call → Outcome × List ℕ → Type 0
-Left image c x = (x .0 .0 .number ≡ 0 → ⊥) → Zeros (x .0 .0) × (x .0 .1 ≡ outOf c) × (x .1 ≡ image)
+Left image c x = IsRefusal (x .0) → Clean c (x .0) × (x .1 ≡ image)
 
 pub image-leaves : (image : List ℕ) (c : Call) → Left image c (onImage image c)
 image-leaves image c = go (ltb (length image) 40)
@@ -155,8 +130,8 @@ image-leaves image c = go (ltb (length image) 40)
     at false e n = refl
 
     go : (b : Bool) → Left image c (cond b (refuses BufferTooSmall (outOf c), image) (kept image (stepIn image c)))
-    go true n = (refusal-zeros BufferTooSmall n, refl, refl)
-    go false n = let l = step-leaves (unpacked image) c n in (l .0, l .1, at (eqb (stepIn image c .0 .0 .number) 0) refl n)
+    go true n = ((refusal-zeros BufferTooSmall n, refl), refl)
+    go false n = (table-leaves kind kindLaws (unpacked image) c n .0, at (eqb (stepIn image c .0 .0 .number) 0) refl n)
 
 pub pack-one : (l : List Place) (image : List ℕ) (r q : Written) (after later : List ℕ) → PackPromise l image r after → PackPromise l image q later → (r ≡ q) × (after ≡ later)
 pack-one l = write-one (packed l)

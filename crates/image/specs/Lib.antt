@@ -1,5 +1,4 @@
 -- What `image` promises, in reading order: definitions, laws, demand 3.
 pub mod Image
 pub mod ImageLaws
-pub mod Viewing
 pub mod Demand3

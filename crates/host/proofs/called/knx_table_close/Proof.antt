@@ -1,6 +1,6 @@
 -- `knx_table_close` keeps its contract. Assumes nothing.
 use mathlib.Core.List.{[]}
-use Rattle.tunnels.specs.Calls.{Close}
+use Rattle.tunnel_model.specs.Calls.{Close}
 use Rattle.host.specs.CalledLaws.{small-call, kept-call}
 use borrow.Author.Needs.{needs}
 use Rattle.host.proofs.called.knx_table_close.Statement.{statement}

@@ -1,6 +1,6 @@
 -- `knx_table_open` keeps its contract. Assumes nothing.
 use mathlib.Core.List.{[]}
-use Rattle.tunnels.specs.Calls.{Open}
+use Rattle.tunnel_model.specs.Calls.{Open}
 use Rattle.host.specs.CalledLaws.{small-call, kept-call}
 use borrow.Author.Needs.{needs}
 use Rattle.host.proofs.called.knx_table_open.Statement.{statement}

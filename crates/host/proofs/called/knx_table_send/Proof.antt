@@ -1,5 +1,5 @@
 -- `knx_table_send` keeps its contract. Assumes nothing.
-use Rattle.tunnels.specs.Calls.{Send}
+use Rattle.tunnel_model.specs.Calls.{Send}
 use Rattle.host.specs.CalledLaws.{small-call, kept-call}
 use borrow.Author.Needs.{needs}
 use Rattle.host.proofs.called.knx_table_send.Statement.{statement}

@@ -1,0 +1,19 @@
+-- The tunnels of a table as statements: first tables of any channels, their laws and what follows from them; then 01's channel, the table of n places, and demand 3.
+pub mod Firsts
+pub mod Store
+pub mod Places
+pub mod Calls
+pub mod Lone
+pub mod Table
+pub mod Runs
+pub mod FirstLaws
+pub mod Laws
+pub mod Theorems
+pub mod Alike
+pub mod PlacesLaws
+pub mod Count
+pub mod RunLaws
+pub mod Demand3
+pub mod Refusing
+pub mod Opening
+pub mod Exchange
