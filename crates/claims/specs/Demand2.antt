@@ -1,12 +1,16 @@
 -- Demand 2 as predicates over any parser and any builder, and that ours have them. A parser is what it tells of each byte string; a builder is what it tells and what its buffer holds afterwards.
 use Prim.Native.Nat.{ℕ, _+_, _≤_}
 use native.Mathlib.Omega.{arith}
-use mathlib.Core.Path.{_≡_, sym}
+use mathlib.Core.Path.{_≡_, refl, sym, ap, _∙_, subst}
 use mathlib.Core.List.{List, [], _∷_, _++_}
 use lib.ListN.{length, take, drop, getD}
-use Rattle.wire.specs.Told.{Told, done, noneOf}
+use lib.Seq.{drop-append-seam}
+use Rattle.wire.specs.Told.{Told, done, Check, verdict, lent, noneOf}
+use Rattle.wire.specs.ToldLaws.{let-pass}
 use Rattle.wire.specs.LayoutLaws.{Bytes}
-use Rattle.wire.specs.Written.{tells, leaves}
+use Rattle.wire.specs.Written.{onto, tells, leaves}
+use Rattle.wire.specs.declared.refusals.Verdict.{Verdict}
+use Rattle.wire.specs.declared.refusals.Verdict.the-variants.{Accept}
 use Rattle.wire.specs.declared.refusals.Written.the-variants as W
 use Rattle.constants.specs.Services as Services
 use Rattle.constants.specs.ServiceLaws as ServiceLaws
@@ -32,6 +36,7 @@ use Rattle.ldata.specs.Count.{crateCount}
 use Rattle.ldata.specs.LData as LData
 use Rattle.ldata.specs.LDataLaws as LDataLaws
 use Rattle.ldata.specs.Builder as LDataBuilder
+use Rattle.ldata.specs.BuilderLaws as BuilderLaws
 use Rattle.ldata.specs.RoundTrip as LDataTrip
 use Rattle.ldata.specs.declared.fields.LDataFields.{LDataFields}
 use Rattle.ldata.specs.declared.fields.LDataAnswer.{LDataAnswer}
@@ -147,6 +152,56 @@ buildLeaves s body b = leaves (Builder.checks (length body) (length b)) (Builder
 
 pub frame-builds : Builds buildTells buildLeaves
 frame-builds = RoundTrip.builds
+
+-- ---- L_Data: what is built of a builder's fields and data is read back, and so is what a builder wrote
+
+-- fields and data that the builder takes
+abbrev pub ldataProper : LDataBuilder × List ℕ → Type 0
+ldataProper x = BuilderLaws.Builds (x .0) (length (x .1)) (9 + length (x .1))
+
+abbrev pub ldataBytes : LDataBuilder × List ℕ → List ℕ
+ldataBytes x = LDataBuilder.layout (x .0) (length (x .1) + 2) (x .1)
+
+abbrev pub ldata : LDataBuilder × List ℕ → Told
+ldata x = LData.told (L.Frame (LDataTrip.built (x .0) (length (x .1) + 2)))
+
+pub ldata-reads-back : ReadsBack ldataProper ldataBytes ldata (LData.parseBy01 crateCount)
+ldata-reads-back x rest p =
+    LDataTrip.reads-back (x .0) (length (x .1)) (9 + length (x .1)) p crateCount (length (x .1) + 2) (x .1) rest refl (LDataTrip.crate-counts (length (x .1)))
+
+-- wherever 01 lets it, an L_Data builder counts what it wrote, and fields, data and later bytes come back
+pub record LDataBack (b : LDataBuilder) (d buf after : List ℕ) : Type 0 where
+  pub fields-back : LData.parseBy01 crateCount after ≡ ldata (b, d)
+  pub data-back : shown after (LData.dataBy01 crateCount (LDataTrip.built b (length d + 2)) after) ≡ d
+  pub rest-back : drop (9 + length d) after ≡ drop (9 + length d) buf
+
+abbrev pub LDataBuilds : (LDataBuilder → List ℕ → List ℕ → Told) → (LDataBuilder → List ℕ → List ℕ → List ℕ) → Type 0
+LDataBuilds tells after =
+    (b : LDataBuilder) (d buf : List ℕ) → BuilderLaws.Builds b (length d) (length buf) → (tells b d buf ≡ done ((9 + length d) ∷ [])) × LDataBack b d buf (after b d buf)
+
+-- what `LDataBuilder::build` promises to tell and to leave in its buffer
+abbrev pub ldataTells : LDataBuilder → List ℕ → List ℕ → Told
+ldataTells b d buf = tells (LDataBuilder.checks b (length d) (length buf)) (ldataBytes (b, d))
+
+abbrev pub ldataLeaves : LDataBuilder → List ℕ → List ℕ → List ℕ
+ldataLeaves b d buf = leaves (LDataBuilder.checks b (length d) (length buf)) (ldataBytes (b, d)) buf
+
+pub ldata-builds : LDataBuilds ldataTells ldataLeaves
+ldata-builds b d buf may =
+    let n : ℕ = length d in
+    let w : List ℕ = ldataBytes (b, d) in
+    let rest : List ℕ = drop (length w) buf in
+    let cs : List Check = LDataBuilder.checks b n (length buf) in
+    let all : verdict cs ≡ Accept = BuilderLaws.stands b n (length buf) may in
+    let counts = LDataTrip.crate-counts n in
+    let long : 9 + n ≡ length w = omega arith in
+    let into : onto buf w ≡ leaves cs w buf = sym (ap (λ (v : Verdict). lent v buf (onto buf w)) all) in
+    let stood : LDataBack b d buf (onto buf w) = record {
+      fields-back = LDataTrip.reads-back b n (length buf) may crateCount (n + 2) d rest refl counts;
+      data-back = LDataTrip.data-back b n (length buf) may crateCount (n + 2) d rest refl counts;
+      rest-back = ap (λ (k : ℕ). drop k (w ++ rest)) long ∙ drop-append-seam w rest ∙ ap (λ (k : ℕ). drop k buf) (sym long);
+    } in
+    (let-pass cs (done (length w ∷ [])) all ∙ ap (λ (k : ℕ). done (k ∷ [])) (sym long), subst (LDataBack b d buf) into stood)
 
 -- ---- round trips, from what one call promises to what the next one promises
 

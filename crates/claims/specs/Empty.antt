@@ -1,62 +1,109 @@
 -- The empty versions that 01 shuts out, each by the predicate that ours has: demand 2 for parsers and builders, demand 3 for tables.
-use Prim.Native.Nat.{ℕ, _+_, _≤_}
+use Prim.Native.Nat.{ℕ, suc, _+_, _≤_}
 use native.Mathlib.Omega.{arith}
 use mathlib.Core.Path.{_≡_, refl, sym, ap, _∙_}
-use mathlib.Core.List.{List, [], _∷_}
-use lib.ListN.{length, getD}
-use Rattle.wire.specs.Told.{Told, done, refused}
-use Rattle.wire.specs.ToldLaws.{never-done}
-use Rattle.wire.specs.Layout.{put}
-use Rattle.wire.specs.Written.{onto}
-use Rattle.wire.specs.declared.refusals.Refusal.{Refusal}
+use mathlib.Core.Bool.{Bool, true, false}
+use mathlib.Core.List.{List, [], _∷_, _++_}
+use mathlib.Core.Option.{none}
+use lib.ListN.{length, getD, replicate}
+use lib.Seq.{getD-take, getD-drop}
+use lib.Dec.{eqb}
+use borrow.Author.Tests.{eq-eqb}
+use Rattle.wire.specs.Told.{Told, done}
+use Rattle.wire.specs.declared.refusals.Refusal.the-variants.{TableFull}
 use Rattle.constants.specs.declared.ServiceType.{ServiceType}
 use Rattle.constants.specs.declared.ServiceType.the-variants.{TunnellingRequest}
 use Rattle.header.specs.Header as Header
 use Rattle.header.specs.HeaderLaws as HeaderLaws
 use Rattle.header.specs.declared.KnxnetIpHeader.{KnxnetIpHeader}
-use Rattle.claims.specs.Demand2.{ReadsBack, header, Builds, buildTells}
-use mathlib.Core.Bool.{Bool, true, false}
-use mathlib.Core.Option.{none}
-use lib.Dec.{eqb}
-use borrow.Author.Tests.{eq-eqb}
-use Rattle.wire.specs.declared.refusals.Refusal.the-variants.{TableFull}
+use Rattle.frame.specs.RoundTrip.{stands-first}
+use Rattle.pci.specs.declared.transport.Tpci.the-variants.{UnnumberedData}
+use Rattle.ldata.specs.BuilderLaws as BuilderLaws
+use Rattle.ldata.specs.declared.builder.LDataBuilder.{LDataBuilder}
 use Rattle.datagram.specs.Heard.{heardBy01}
 use Rattle.datagram.specs.declared.Heard.{Heard}
 use Rattle.datagram.specs.declared.Heard.the-variants.{Request, Ack, Refused}
 use Rattle.tunnel.specs.Rules.{afresh}
 use Rattle.tunnel.specs.declared.Said.the-variants.{Ignored}
-use Rattle.tunnel_model.specs.Firsts.{bit, countOf}
-use Rattle.tunnel_model.specs.FirstLaws.{clash}
+use Rattle.tunnel_model.specs.Firsts.{bit, isNone, countOf}
+use Rattle.tunnel_model.specs.FirstLaws.{clash, none-some}
 use Rattle.tunnel_model.specs.Store.{Machine, Seen, Isolates, Others, Opens}
 use Rattle.tunnel_model.specs.Calls.{Call, Open, Close, Timeout, Send, Datagram, Outcome, outOf, refuses, says}
 use Rattle.tunnel_model.specs.Table.{chan, emptyOf, tableOf}
 use Rattle.table.specs.Places.{kind}
 use Rattle.table.specs.declared.places.Place.{Place}
+use Rattle.claims.specs.Demand2.{ReadsBack, header, Builds, ldataProper, ldataBytes, ldata, LDataBuilds}
 use Rattle.claims.specs.Examples.{request, room}
 
+-- ---- parsers
+
+-- any parser that never answers 0, of any record that has a proper one
+module _ {A : Type 0} (proper : A → Type 0) (layout : A → List ℕ) (tells : A → Told) (parse : List ℕ → Told) (reads : ReadsBack proper layout tells parse) where
+  never-answers : (a : A) → proper a → tells a .number ≡ 0 → ((s : List ℕ) → parse s .number ≡ 0 → ⊥) → ⊥
+  never-answers a p zero never = never (layout a ++ []) (ap (λ (t : Told). t .number) (reads a [] p) ∙ zero)
+
+  -- any parser whose accepted answers are all one record, where two proper ones differ
+  one-record : (a b : A) (t : Told) → proper a → proper b → tells a .number ≡ 0 → tells b .number ≡ 0 → (tells a ≡ tells b → ⊥) → ((s : List ℕ) → parse s .number ≡ 0 → parse s ≡ t) → ⊥
+  one-record a b t pa pb za zb differ fixed =
+      let x : tells a ≡ t = sym (reads a [] pa) ∙ fixed (layout a ++ []) (ap (λ (u : Told). u .number) (reads a [] pa) ∙ za) in
+      let y : tells b ≡ t = sym (reads b [] pb) ∙ fixed (layout b ++ []) (ap (λ (u : Told). u .number) (reads b [] pb) ∙ zb) in
+      differ (x ∙ sym y)
+
 -- a proper header of a total length
-abbrev some : ℕ → KnxnetIpHeader
-some total = record { «header_length» = 6; «protocol_version» = 0x10; «service_type» = TunnellingRequest; «total_length» = total }
+abbrev total : ℕ → KnxnetIpHeader
+total n = record { «header_length» = 6; «protocol_version» = 0x10; «service_type» = TunnellingRequest; «total_length» = n }
 
-some-proper : (total : ℕ) → HeaderLaws.Proper (some total)
-some-proper total = record { length-6 = refl; version-1 = refl }
+total-proper : (n : ℕ) → HeaderLaws.Proper (total n)
+total-proper n = record { length-6 = refl; version-1 = refl }
 
-abbrev HeaderReadsBack : (List ℕ → Told) → Type 0
-HeaderReadsBack parse = ReadsBack HeaderLaws.Proper Header.layout header parse
+totals-differ : header (total 6) ≡ header (total 7) → ⊥
+totals-differ x = let y : _≡_ {A = ℕ} 6 7 = ap (λ (t : Told). getD (t .values) 3 0) x in omega arith
 
--- a parser that refuses everything
-pub refuses-everything : (k : ℕ) (e : Refusal) → HeaderReadsBack (λ s. refused k e) → ⊥
-refuses-everything k e f = never-done e (ap (λ (t : Told). t .number) (f (some 6) [] (some-proper 6)))
+pub refuses-everything : (parse : List ℕ → Told) → ((s : List ℕ) → parse s .number ≡ 0 → ⊥) → ReadsBack HeaderLaws.Proper Header.layout header parse → ⊥
+refuses-everything parse never reads = never-answers HeaderLaws.Proper Header.layout header parse reads (total 6) (total-proper 6) refl never
 
--- a parser that returns a fixed record
-pub returns-fixed : (t : Told) → HeaderReadsBack (λ s. t) → ⊥
-returns-fixed t f =
-    let x : header (some 6) ≡ header (some 7) = sym (f (some 6) [] (some-proper 6)) ∙ f (some 7) [] (some-proper 7) in
-    let y : _≡_ {A = ℕ} 6 7 = ap (λ (t : Told). getD (t .values) 3 0) x in
-    omega arith
+pub returns-fixed : (parse : List ℕ → Told) (t : Told) → ((s : List ℕ) → parse s .number ≡ 0 → parse s ≡ t) → ReadsBack HeaderLaws.Proper Header.layout header parse → ⊥
+returns-fixed parse t fixed reads =
+    one-record HeaderLaws.Proper Header.layout header parse reads (total 6) (total 7) t (total-proper 6) (total-proper 7) refl refl totals-differ fixed
+
+-- a group write of a six-bit number, without data
+abbrev writing : ℕ → LDataBuilder
+writing control-1 = record {
+  ctrl1 = record { raw = control-1 };
+  ctrl2 = record { raw = 0xE0 };
+  source = record { 0 = 0x1105 };
+  «destination_raw» = 0x0803;
+  tpci = UnnumberedData;
+  «apci_code» = 0x080;
+  «six_bit» = 1;
+}
+
+writing-proper : (control-1 m : ℕ) → 9 ≤ m → BuilderLaws.Builds (writing control-1) 0 m
+writing-proper control-1 m h = record {
+  data-packet = refl;
+  sequence-15 = omega arith;
+  code-most = omega arith;
+  code-multiple = refl;
+  six-63 = omega arith;
+  data-253 = omega arith;
+  fits = h;
+}
+
+writings-differ : ldata (writing 0x94, []) ≡ ldata (writing 0x95, []) → ⊥
+writings-differ x = let y : _≡_ {A = ℕ} 0x94 0x95 = ap (λ (t : Told). getD (t .values) 0 0) x in omega arith
+
+pub ldata-refuses-everything : (parse : List ℕ → Told) → ((s : List ℕ) → parse s .number ≡ 0 → ⊥) → ReadsBack ldataProper ldataBytes ldata parse → ⊥
+ldata-refuses-everything parse never reads =
+    never-answers ldataProper ldataBytes ldata parse reads (writing 0x94, []) (writing-proper 0x94 9 (omega arith)) refl never
+
+pub ldata-returns-fixed : (parse : List ℕ → Told) (t : Told) → ((s : List ℕ) → parse s .number ≡ 0 → parse s ≡ t) → ReadsBack ldataProper ldataBytes ldata parse → ⊥
+ldata-returns-fixed parse t fixed reads =
+    one-record ldataProper ldataBytes ldata parse reads (writing 0x94, []) (writing 0x95, []) t (writing-proper 0x94 9 (omega arith)) (writing-proper 0x95 9 (omega arith)) refl refl writings-differ fixed
+
+-- ---- builders
 
 abbrev zeros : List ℕ
-zeros = 0 ∷ 0 ∷ 0 ∷ 0 ∷ 0 ∷ 0 ∷ 0 ∷ []
+zeros = replicate 10 0
 
 -- a builder that writes nothing, whatever it tells
 pub writes-nothing : (tells : ServiceType → List ℕ → List ℕ → Told) → Builds tells (λ s body b. b) → ⊥
@@ -64,17 +111,34 @@ writes-nothing tells f =
     let x : _≡_ {A = ℕ} 2 0 = ap (λ (t : Told). t .number) (f TunnellingRequest [] zeros (omega arith) (omega arith) .1 .fields-back) in
     omega arith
 
--- a builder that reports a length it did not write: the header alone stands in the buffer
-pub reports-unwritten : Builds buildTells (λ s body b. onto b (put Header.fields (Header.made s (length body)))) → ⊥
-reports-unwritten f =
-    let x : _≡_ {A = ℕ} 0 1 = ap (λ (l : List ℕ). getD l 0 0) (f TunnellingRequest (1 ∷ []) zeros (omega arith) (omega arith) .1 .body-back) in
+pub ldata-writes-nothing : (tells : LDataBuilder → List ℕ → List ℕ → Told) → LDataBuilds tells (λ b d buf. buf) → ⊥
+ldata-writes-nothing tells f =
+    let x : _≡_ {A = ℕ} 2 0 = ap (λ (t : Told). t .number) (f (writing 0x94) [] zeros (writing-proper 0x94 10 (omega arith)) .1 .fields-back) in
     omega arith
 
--- or one byte more than it wrote, whatever it wrote
-pub reports-one-more : (after : ServiceType → List ℕ → List ℕ → List ℕ) → Builds (λ s body b. done ((7 + length body) ∷ [])) after → ⊥
-reports-one-more after f =
-    let x : _≡_ {A = ℕ} 7 6 = ap (λ (t : Told). getD (t .values) 0 0) (f TunnellingRequest [] zeros (omega arith) (omega arith) .0) in
+-- any builder that reports more than stands changed: the last byte that it reports is as it was
+pub reports-more : (tells : ServiceType → List ℕ → List ℕ → Told) (after : ServiceType → List ℕ → List ℕ → List ℕ)
+    → ((s : ServiceType) (body b : List ℕ) (n : ℕ) → tells s body b ≡ done (suc n ∷ []) → getD (after s body b) n 0 ≡ getD b n 0) → Builds tells after → ⊥
+reports-more tells after stays f =
+    let x = f TunnellingRequest (1 ∷ []) zeros (omega arith) (omega arith) in
+    let a : List ℕ = after TunnellingRequest (1 ∷ []) zeros in
+    let same : getD a 6 0 ≡ 0 = stays TunnellingRequest (1 ∷ []) zeros 6 (x .0) in
+    let one : getD a 6 0 ≡ 1 = sym (getD-take 7 a 6 0 (omega arith)) ∙ ap (λ (l : List ℕ). getD l 6 0) (stands-first TunnellingRequest (1 ∷ []) zeros a (x .1)) in
+    let z : _≡_ {A = ℕ} 0 1 = sym same ∙ one in
     omega arith
+
+-- and any that reports fewer: the byte behind its count is changed
+pub reports-fewer : (tells : ServiceType → List ℕ → List ℕ → Told) (after : ServiceType → List ℕ → List ℕ → List ℕ)
+    → ((s : ServiceType) (body b : List ℕ) (n : ℕ) → tells s body b ≡ done (n ∷ []) → getD (after s body b) n 0 ≡ getD b n 0 → ⊥) → Builds tells after → ⊥
+reports-fewer tells after changes f =
+    let x = f TunnellingRequest [] zeros (omega arith) (omega arith) in
+    changes TunnellingRequest [] zeros 6 (x .0) (sym (getD-drop 6 (after TunnellingRequest [] zeros) 0 0) ∙ ap (λ (l : List ℕ). getD l 0 0) (x .1 .rest-back))
+
+pub ldata-reports-fewer : (tells : LDataBuilder → List ℕ → List ℕ → Told) (after : LDataBuilder → List ℕ → List ℕ → List ℕ)
+    → ((b : LDataBuilder) (d buf : List ℕ) (n : ℕ) → tells b d buf ≡ done (n ∷ []) → getD (after b d buf) n 0 ≡ getD buf n 0 → ⊥) → LDataBuilds tells after → ⊥
+ldata-reports-fewer tells after changes f =
+    let x = f (writing 0x94) [] zeros (writing-proper 0x94 10 (omega arith)) in
+    changes (writing 0x94) [] zeros 9 (x .0) (sym (getD-drop 9 (after (writing 0x94) [] zeros) 0 0) ∙ ap (λ (l : List ℕ). getD l 0 0) (x .1 .rest-back))
 
 -- ---- tables
 
@@ -125,16 +189,23 @@ disturbed-by-refused f =
     let z : _≡_ {A = ℕ} 99 12 = ap secondEnd (f (Open 21 ∷ []) (Datagram (request 21 0) room ∷ Datagram [] room ∷ Datagram (request 21 1) room ∷ []) 21 afresh refl) in
     omega arith
 
--- a table that never opens a channel: every call is refused with 8
+-- any table that never shows a channel, however it answers
+module _ (M : Machine chan) (hidden : (b : ℕ) (l : M .Table) → M .look b l ≡ none) where
+  nobody : (b : ℕ) (l : M .Table) → Others chan M 8 b l → ⊥
+  nobody b l o = go (o .ids) (o .many) (o .all)
+    where
+      go : (is : List ℕ) → length is ≡ 8 → ((i : ℕ) → 1 ≤ countOf (λ j. eqb j i) is → isNone (M .look i l) ≡ false) → ⊥
+      go [] k all = let z : _≡_ {A = ℕ} 0 8 = k in omega arith
+      go (i ∷ is) k all = clash (sym (ap isNone (hidden i l)) ∙ all i (let h = ap bit (eq-eqb i i refl) in omega arith))
+
+  pub never-opens : Opens chan 8 M → ⊥
+  never-opens f =
+      let x = f [] (Open 0) 0 refl refl (hidden 0 (M .start)) in
+      none-some (sym (hidden 0 (M .step (M .start) (Open 0) .1)) ∙ x .afresh (nobody 0 (M .start)) .1)
+
+-- such as one that refuses every call with 8
 abbrev pub shut : Machine chan
 shut = record { Table = Unit {0}; start = tt; look = λ b t. none; step = λ t c. (refuses TableFull (outOf c), t) }
 
-nobody : (t : Unit {0}) → Others chan shut 8 0 t → ⊥
-nobody t o = go (o .ids) (o .many) (o .all)
-  where
-    go : (is : List ℕ) → length is ≡ 8 → ((i : ℕ) → 1 ≤ countOf (λ j. eqb j i) is → true ≡ false) → ⊥
-    go [] k all = let z : _≡_ {A = ℕ} 0 8 = k in omega arith
-    go (i ∷ is) k all = clash (all i (let h = ap bit (eq-eqb i i refl) in omega arith))
-
-pub never-opens : Opens chan 8 shut → ⊥
-never-opens f = nobody tt (f [] (Open 0) 0 refl refl refl .refused .0 refl)
+pub always-full : Opens chan 8 shut → ⊥
+always-full = never-opens shut (λ b l. refl)
