@@ -342,6 +342,11 @@ pub table-calls : (t : Table) (c : Call) (r : Called) (after : List ℕ) → Cal
     → Zeros (Table.told r) × (after ≡ outOf c) × (r .table ≡ t)
 table-calls = Compiled.call-refusing
 
+-- table::Table::heard
+pub table-heard : (t : Table) (h : Heard) (out : List ℕ) (r : Called) (after : List ℕ) → Table.HeardPromise t h out r after → (r .number ≡ 0 → ⊥)
+    → Zeros (Table.told r) × (after ≡ out) × (r .table ≡ t)
+table-heard = Compiled.heard-refusing
+
 -- ---- views: a refused record holds nothing, and hands out nothing
 
 -- views::KnxnetIpFrame::parse
@@ -494,7 +499,12 @@ host-table-calls = CalledLaws.call-refusing
 -- pci::Tpci::from_byte
 -- pci::Tpci::is_data
 -- pci::Tpci::sequence
--- pci::Tpci::to_byte
+-- pci::kind_in
+-- pci::sequence_in
+-- pci::code_in
+-- pci::is_named_in
+-- ldata::data_start
+-- ldata::data_end
 -- ldata::LDataFields::destination_group
 -- ldata::LDataFields::destination_individual
 -- ldata::LDataFields::is_group_write
@@ -518,6 +528,9 @@ host-table-calls = CalledLaws.call-refusing
 -- tunnelling::TunnelingRequest::new
 -- tunnelling::TunnelingAck::new
 -- tunnelling::TunnelingAck::is_ok
+-- tunnel::Said::number
+-- tunnel::Wait::number
+-- tunnel::Wait::from_u8
 -- tunnel::Tunnel::fresh
 -- tunnel::Tunnel::waits
 -- tunnel::Tunnel::sending

@@ -15,7 +15,8 @@ use Rattle.tunnel.specs.declared.Said.the-variants.{Nothing, Repeat, Deliver, D
 use Rattle.tunnel.specs.declared.Arrival.{Arrival}
 use Rattle.tunnel.specs.declared.Arrival.the-variants as A
 use Rattle.tunnel_model.specs.Store.{Seen, run, reached, names, tableTrace, loneTrace, callsOf, seen}
-use Rattle.tunnel_model.specs.Calls.{Call, Open, Close, Timeout, Send, Datagram, saidOf, refuses, says}
+use Rattle.tunnel.specs.Numbers.{saidOf}
+use Rattle.tunnel_model.specs.Calls.{Call, Open, Close, Timeout, Send, Datagram, refuses, says}
 use Rattle.tunnel_model.specs.Lone.{arrived}
 use Rattle.tunnel_model.specs.Table.{chan, tableOf}
 use Rattle.table.specs.Places.{kind}

@@ -28,8 +28,7 @@ use Rattle.ldata.specs.declared.destination.IndividualAddressAnswer.the-variant
 use Rattle.cemi.specs.Cemi as Cemi
 use Rattle.tunnel.specs.declared.Said.the-variants as Said
 use Rattle.tunnel.specs.declared.Wait.the-variants as Wait
-use Rattle.tunnel_model.specs.Calls.{saidOf}
-use Rattle.image.specs.Image.{waitNumber}
+use Rattle.tunnel.specs.Numbers.{saidOf, waitNumber}
 
 -- what `from_u16` answers to each code of 01, and to two that the published crate knows
 pub record ServiceNames : Type 0 where

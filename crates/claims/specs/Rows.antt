@@ -22,7 +22,8 @@ use Rattle.frame.specs.declared.fields.FrameAnswer.the-variants.{Frame}
 use Rattle.tunnel.specs.declared.Wait.{Wait}
 use Rattle.tunnel.specs.declared.Said.the-variants.{Deliver}
 use Rattle.tunnel_model.specs.Store.{step}
-use Rattle.tunnel_model.specs.Calls.{Datagram, saidOf, refuses}
+use Rattle.tunnel.specs.Numbers.{saidOf}
+use Rattle.tunnel_model.specs.Calls.{Datagram, refuses}
 use Rattle.tunnel_model.specs.Lone.{lone}
 use Rattle.tunnel_model.specs.Table.{chan, storeOf}
 use Rattle.table.specs.Places.{kind}

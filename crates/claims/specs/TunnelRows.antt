@@ -12,7 +12,8 @@ use Rattle.tunnel.specs.declared.Wait.the-variants.{Idle, First, Second}
 use Rattle.tunnel.specs.declared.Said.the-variants.{Repeat, GiveUp, Duplicate, OutOfOrder, Sent, Ignored}
 use Rattle.tunnel_model.specs.Firsts.{isNone}
 use Rattle.tunnel_model.specs.Store.{step}
-use Rattle.tunnel_model.specs.Calls.{Call, Open, Close, Timeout, Send, Datagram, Outcome, saidOf, refuses, says}
+use Rattle.tunnel.specs.Numbers.{saidOf}
+use Rattle.tunnel_model.specs.Calls.{Call, Open, Close, Timeout, Send, Datagram, Outcome, refuses, says}
 use Rattle.tunnel_model.specs.Lone.{After, lone}
 use Rattle.tunnel_model.specs.Table.{chan, storeOf, emptyOf}
 use Rattle.table.specs.Places.{kind}

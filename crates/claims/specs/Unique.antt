@@ -69,6 +69,7 @@ use Rattle.views.specs.declared.knxnet_ip.KnxnetIpFrame.{KnxnetIpFrame}
 use Rattle.views.specs.declared.l_data.LDataFrame.{LDataFrame}
 use Rattle.datagram.specs.Heard as Heard
 use Rattle.datagram.specs.HeardLaws as HeardLaws
+use Rattle.tunnel.specs.Numbers as TunnelNumbers
 use Rattle.tunnel.specs.Rules as Rules
 use Rattle.tunnel.specs.declared.Tunnel.{Tunnel}
 use Rattle.tunnel_model.specs.Calls.{Call, Open, Close, Timeout, Send, Datagram}
@@ -84,7 +85,8 @@ use Rattle.replay.specs.Laws as CallLaws
 use Rattle.replay.specs.Records as Records
 use Rattle.replay.specs.declared.records.Record.{Record}
 use Rattle.replay.specs.declared.telling.Told.{Told}
-use Rattle.table.specs.Table.{EmptyPromise, CallPromise}
+use Rattle.datagram.specs.declared.Heard.{Heard}
+use Rattle.table.specs.Table.{EmptyPromise, CallPromise, heardOn, HeardPromise}
 use Rattle.table.specs.Compiled as Compiled
 use Rattle.table.specs.declared.calls.Table.{Table}
 use Rattle.table.specs.declared.calls.Called.{Called}
@@ -302,9 +304,13 @@ tpci-is-data t r q = same
 pub tpci-sequence : One Transport.SequencePromise
 tpci-sequence t r q = same
 
--- pci::Tpci::to_byte
-pub tpci-to-byte : One Transport.ToPromise
-tpci-to-byte t r q = same
+-- pci::kind_in
+pub kind-in : One Transport.KindInPromise
+kind-in byte r q = same
+
+-- pci::sequence_in
+pub sequence-in : One Transport.SequenceInPromise
+sequence-in byte r q = same
 
 -- pci::Apci::from_bytes
 pub apci-from-bytes : One₂ Application.FromPromise
@@ -317,6 +323,14 @@ apci-to a r q = same
 -- pci::Apci::is_named
 pub apci-is-named : One₂ Application.IsNamedPromise
 apci-is-named a code r q = same
+
+-- pci::code_in
+pub code-in : One₂ Application.CodeInPromise
+code-in first second r q = same
+
+-- pci::is_named_in
+pub is-named-in : One₂ Application.IsNamedInPromise
+is-named-in first second r q = same
 
 -- pci::extract_6bit_value
 pub six-bit-value : One Application.SixBitPromise
@@ -335,6 +349,14 @@ ldata-data = LDataLaws.data-one
 -- ldata::LDataFields::data_part
 pub ldata-data-part : One₂ LData.DataPartPromise
 ldata-data-part f s r q = same
+
+-- ldata::data_start
+pub data-start : One LData.DataStartPromise
+data-start d r q = same
+
+-- ldata::data_end
+pub data-end : One LData.DataEndPromise
+data-end l r q = same
 
 -- ldata::LDataFields::destination_group
 pub ldata-destination-group : One LData.DestinationGroupPromise
@@ -600,6 +622,18 @@ datagram-hear = HeardLaws.hear-one
 
 -- ---- tunnel
 
+-- tunnel::Said::number
+pub said-number : One TunnelNumbers.SaidNumberPromise
+said-number a r q = same
+
+-- tunnel::Wait::number
+pub wait-number : One TunnelNumbers.WaitNumberPromise
+wait-number w r q = same
+
+-- tunnel::Wait::from_u8
+pub wait-from-u8 : One TunnelNumbers.WaitFromPromise
+wait-from-u8 n r q = same
+
 -- tunnel::Tunnel::fresh
 pub tunnel-fresh : (r q : Tunnel) → Rules.FreshPromise r → Rules.FreshPromise q → r ≡ q
 tunnel-fresh r q = same
@@ -652,6 +686,10 @@ table-timeout id t = Compiled.call-one t (Timeout id)
 -- table::Table::send
 pub table-send : (id : ℕ) (cemi out : List ℕ) → OneCall (Send id cemi out)
 table-send id cemi out t = Compiled.call-one t (Send id cemi out)
+
+-- table::Table::heard
+pub table-heard : (t : Table) (h : Heard) (out : List ℕ) (r q : Called) (after later : List ℕ) → HeardPromise t h out r after → HeardPromise t h out q later → (r ≡ q) × (after ≡ later)
+table-heard t h out = Compiled.called-one (heardOn h out (t .places))
 
 -- table::Table::datagram
 pub table-datagram : (bytes out : List ℕ) → OneCall (Datagram bytes out)

@@ -45,7 +45,10 @@ use Rattle.datagram.specs.declared.Heard.the-variants.{Request, Ack}
 frame-heard : (s : ServiceType) (body b : List ℕ) → heardBy01 (onto b (frame s body)) ≡ inFrame (codeOf s) (6 + length body) body
 frame-heard s body b =
     let x = back s body b in
-    sym (framed (onto b (frame s body)) (built s body) (sym (x .fields-back))) ∙ ap (inFrame (codeOf s) (6 + length body)) (x .body-back)
+    let f : FrameFields = built s body in
+    let w : Within f (onto b (frame s body)) = within f (onto b (frame s body)) (sym (x .fields-back)) in
+    let body-is : partOf (onto b (frame s body)) 6 (6 + length body) ≡ body = sym (ap (shown (onto b (frame s body))) (let-pass (Frame.checks (length (onto b (frame s body))) (Header.values (f .header))) (viewed 6 (6 + length body)) (w .stood))) ∙ x .body-back in
+    sym (framed (onto b (frame s body)) f (sym (x .fields-back))) ∙ ap (inFrame (codeOf s) (6 + length body)) body-is
 
 -- a request's bytes in a buffer
 module _ (h : ConnectionHeader) (cemi b : List ℕ) where

@@ -7,7 +7,7 @@ use lib.ListN.{length}
 use lib.Dec.{eqb}
 use Rattle.wire.specs.Told.{Told, refused}
 use Rattle.wire.specs.Written.{leaves, room}
-use Rattle.wire.specs.declared.refusals.Refusal.the-variants.{BufferTooSmall}
+use Rattle.wire.specs.declared.refusals.Refusal.{Refusal}
 use Rattle.tunnel_model.specs.Calls.{Call, Open, Close, Timeout, Send, Datagram}
 use Rattle.tunnel_model.specs.Table.{emptyOf}
 use Rattle.table.specs.Places.{kind}
@@ -51,5 +51,5 @@ abbrev pub KeepPromise : Called → List ℕ → KnxCalled → List ℕ → Type
 KeepPromise q image r after =
     (told r ≡ Table.told q) × (after ≡ cond (eqb (q .number) 0) (leaves (room (length (packed (q .table .places))) (length image) ∷ []) (packed (q .table .places)) image) image)
 
-abbrev pub TooSmallPromise : KnxCalled → Type 0
-TooSmallPromise r = told r ≡ refused 2 BufferTooSmall
+abbrev pub RefusedPromise : Refusal → KnxCalled → Type 0
+RefusedPromise e r = told r ≡ refused 2 e

@@ -2,19 +2,25 @@
 use Prim.Native.Nat.{ℕ, _<_, _≤_}
 use native.Mathlib.Omega.{arith}
 use mathlib.Core.Path.{_≡_, refl, sym, ap, subst, _∙_}
-use mathlib.Core.Bool.{cond}
+use mathlib.Core.Bool.{Bool, cond}
 use mathlib.Core.List.{List, [], _∷_}
 use lib.ListN.{length, getD, drop}
 use lib.Dec.{eqb}
-use borrow.Author.Tests.{le-ltb}
-use Rattle.wire.specs.Told.{Told}
+use borrow.Author.Tests.{le-ltb, ne-eqb}
+use Rattle.wire.specs.Numbers.{numberOf}
+use Rattle.wire.specs.Told.{Told, refused}
+use Rattle.wire.specs.declared.refusals.Refusal.{Refusal}
+use Rattle.wire.specs.declared.refusals.Refusal.the-variants.{BufferTooSmall}
 use Rattle.wire.specs.ToldLaws.{same, one-to-one, never-done}
 use Rattle.wire.specs.WrittenLaws.{wrote}
 use Rattle.wire.specs.declared.refusals.Written.{Written}
 use Rattle.wire.specs.declared.refusals.Written.the-variants as W
 use Rattle.wire.specs.Refusing.{Zeros}
 use Rattle.wire.specs.Written.{onto, leaves, room}
-use Rattle.tunnel_model.specs.Calls.{Call, Outcome, outOf}
+use Rattle.tunnel_model.specs.Calls.{Call, Datagram, Outcome, outOf}
+use Rattle.datagram.specs.Heard.{heardBy01}
+use Rattle.datagram.specs.declared.Heard.the-variants as H
+use Rattle.table.specs.TableLaws.{step-heard}
 use Rattle.table.specs.Table as Table
 use Rattle.table.specs.declared.places.Place.{Place}
 use Rattle.table.specs.declared.calls.Table.{Table}
@@ -24,7 +30,7 @@ use Rattle.tunnel_model.specs.Table.{chan, storeOf, emptyOf}
 use Rattle.table.specs.Places.{kind}
 use Rattle.image.specs.Image.{packed, unpacked, UnpackPromise, PackPromise, kept, stepIn}
 use Rattle.image.specs.ImageLaws.{forty, in-long, on-small, on-enough, Left, image-leaves, pack-one}
-use Rattle.host.specs.Called.{told, CallPromise, KeepPromise, TooSmallPromise, EmptyPromise}
+use Rattle.host.specs.Called.{told, CallPromise, KeepPromise, RefusedPromise, EmptyPromise}
 use Rattle.image.specs.Demand3.{emptyImage}
 use Rattle.host.specs.Building.{WrittenPromise}
 use Rattle.host.specs.BuildingLaws.{tells-one}
@@ -32,8 +38,15 @@ use Rattle.host.specs.declared.building.KnxWritten.{KnxWritten}
 use Rattle.host.specs.declared.called.KnxCalled.{KnxCalled}
 
 -- an image that is too small
-pub small-call : (image : List ℕ) (c : Call) (r : KnxCalled) → length image < 40 → TooSmallPromise r → CallPromise image c r image (outOf c)
+pub small-call : (image : List ℕ) (c : Call) (r : KnxCalled) → length image < 40 → RefusedPromise BufferTooSmall r → CallPromise image c r image (outOf c)
 small-call image c r h p = ap (λ (t : Told). ((t, outOf c), image)) p ∙ sym (on-small image c h)
+
+-- a datagram that is refused by its bytes alone
+pub unheard-call : (image bytes out : List ℕ) (e : Refusal) (r : KnxCalled) → 40 ≤ length image → heardBy01 bytes ≡ H.Refused e → RefusedPromise e r → CallPromise image (Datagram bytes out) r image out
+unheard-call image bytes out e r enough h p =
+    ap (λ (t : Told). ((t, out), image)) p
+    ∙ ap (λ (b : Bool). ((refused 2 e, out), cond b (onto image (packed (unpacked image))) image)) (sym (ne-eqb (numberOf e) 0 (never-done e)))
+    ∙ ap (kept image) (step-heard (unpacked image) bytes out (H.Refused e) h) ∙ sym (on-enough image (Datagram bytes out) enough)
 
 -- the image is unpacked, the table is called, and what it gave is kept
 pub kept-call : (image : List ℕ) (c : Call) (t : Table) (q : Called) (out : List ℕ) (r : KnxCalled) (after : List ℕ) → 40 ≤ length image

@@ -51,10 +51,6 @@ codeOfBytes d first second = cond d (Application.codeIn first second) 0
 abbrev pub namedIn : Bool → ℕ → ℕ → ℕ
 namedIn d first second = cond (Application.isUnknown (LData.apciIn d first second)) 0 1
 
--- the same by the row of the code, the sixteen in their order: all but 0x2C0, 0x380 and 0x3C0
-abbrev pub namedRow : ℕ → ℕ
-namedRow row = cond (eqb row 11) 0 (cond (ltb row 14) 1 0)
-
 -- "The six-bit number is read from the APCI byte"; a control packet has none
 abbrev pub sixBitIn : Bool → ℕ → ℕ
 sixBitIn d second = cond d (second % 64) 0

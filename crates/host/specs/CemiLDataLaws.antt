@@ -2,7 +2,7 @@
 use Prim.Native.Nat.{ℕ, zero, suc, _+_, _*_, _<_, _≤_, _/_, _%_}
 use native.Mathlib.Omega.{arith}
 use mathlib.Core.Path.{_≡_, refl, sym, ap, _∙_}
-use mathlib.Core.Bool.{Bool, true, false, cond}
+use mathlib.Core.Bool.{Bool, true, false, not, cond}
 use mathlib.Core.List.{List, [], _∷_, _++_}
 use lib.ListN.{length, getD}
 use lib.Dec.{ltb}
@@ -32,7 +32,7 @@ use Rattle.cemi.specs.Cemi as Cemi
 use Rattle.cemi.specs.CemiLaws as CemiLaws
 use Rattle.cemi.specs.declared.CEMIFrame.{CEMIFrame}
 use Rattle.cemi.specs.declared.CEMIAnswer.the-variants as C
-use Rattle.host.specs.CemiLData.{told, frameIn, checks, dataIn, codeOfBytes, namedIn, namedRow, sixBitIn, ldataIn, CemiLDataPromise, RefusedPromise, Accepted, ReadPromise}
+use Rattle.host.specs.CemiLData.{told, frameIn, checks, dataIn, codeOfBytes, namedIn, sixBitIn, ldataIn, CemiLDataPromise, RefusedPromise, Accepted, ReadPromise}
 use Rattle.host.specs.declared.cemi_ldata.KnxLData.{KnxLData}
 
 -- ---- on from the two answers below
@@ -81,26 +81,13 @@ no-cemi s e r q p =
 
 -- ---- the numbers of the bytes are those of the record
 
--- what holds of 0, 1, 2 and 3 holds below 4
-four : (P : ℕ → Type 0) → P 0 → P 1 → P 2 → P 3 → (n : ℕ) → n < 4 → P n
-four P a b c d zero h = a
-four P a b c d (suc zero) h = b
-four P a b c d (suc (suc zero)) h = c
-four P a b c d (suc (suc (suc zero))) h = d
-four P a b c d (suc (suc (suc (suc n)))) h = absurd (omega arith)
-
--- the row of a code says whether it is named
-pub row-named : (first second : ℕ) → second < 256 → namedRow (first % 4 * 4 + second / 64) ≡ namedIn true first second
-row-named first second h = four (λ x. P x b) (row 0 refl refl refl refl) (row 1 refl refl refl refl) (row 2 refl refl refl refl) (row 3 refl refl refl refl) (first % 4) (omega arith)
+-- whether the service of two bytes has a name, as a number
+pub named-is : (b : Bool) (first second : ℕ) → b ≡ not (isUnknown (Application.apciOf (Application.codeIn first second))) → cond b 1 0 ≡ namedIn true first second
+named-is b first second e = ap (λ (x : Bool). cond x 1 0) e ∙ go (isUnknown (Application.apciOf (Application.codeIn first second)))
   where
-    b : ℕ
-    b = second / 64
-
-    P : ℕ → ℕ → Type 0
-    P x y = namedRow (x * 4 + y) ≡ cond (isUnknown (Application.apciOf (x * 256 + y * 64))) 0 1
-
-    row : (x : ℕ) → P x 0 → P x 1 → P x 2 → P x 3 → P x b
-    row x p q r s = four (P x) p q r s b (omega arith)
+    go : (u : Bool) → _≡_ {A = ℕ} (cond (not u) 1 0) (cond u 0 1)
+    go true = refl
+    go false = refl
 
 code-in : (d : Bool) (first second : ℕ) → codeOfBytes d first second ≡ Application.codeOf (apciIn d first second)
 code-in true first second = sym (code-back (Application.codeIn first second))

@@ -1,12 +1,10 @@
 // The calls on a table of eight tunnels, over the byte image that the host lends.
-ghost use mathlib.Core.Path.{_≡_};
-ghost use Rattle.tunnel_model.specs.Calls.{saidOf};
-ghost use Rattle.host.specs.Called.{KeepPromise, EmptyPromise, TooSmallPromise, OpenPromise, ClosePromise, TimeoutPromise, SendPromise, DatagramPromise};
+ghost use Rattle.host.specs.Called.{KeepPromise, EmptyPromise, RefusedPromise, OpenPromise, ClosePromise, TimeoutPromise, SendPromise, DatagramPromise};
 use crate::building;
 use crate::building::KnxWritten;
+use datagram::Heard;
 use table::Called;
 use table::Table;
-use tunnel::Said;
 use wire::Refusal;
 
 // A number of 01 and, beside 0, what is said, the view and the count of bytes written to the output.
@@ -33,7 +31,7 @@ pub extern "C" fn knx_table_open(image: &mut [u8], id: u8) -> KnxCalled
     ensures { λ r. ⌜ OpenPromise (now (image .entry)) id r (now (image .exit)) ⌝ }
 {
     if image.len() < image::SIZE {
-        return too_small();
+        return refused(Refusal::BufferTooSmall);
     }
     keep(image::unpack(image).open(id), image)
 }
@@ -43,7 +41,7 @@ pub extern "C" fn knx_table_close(image: &mut [u8], id: u8) -> KnxCalled
     ensures { λ r. ⌜ ClosePromise (now (image .entry)) id r (now (image .exit)) ⌝ }
 {
     if image.len() < image::SIZE {
-        return too_small();
+        return refused(Refusal::BufferTooSmall);
     }
     keep(image::unpack(image).close(id), image)
 }
@@ -53,7 +51,7 @@ pub extern "C" fn knx_table_timeout(image: &mut [u8], id: u8) -> KnxCalled
     ensures { λ r. ⌜ TimeoutPromise (now (image .entry)) id r (now (image .exit)) ⌝ }
 {
     if image.len() < image::SIZE {
-        return too_small();
+        return refused(Refusal::BufferTooSmall);
     }
     keep(image::unpack(image).timeout(id), image)
 }
@@ -63,19 +61,24 @@ pub extern "C" fn knx_table_send(image: &mut [u8], id: u8, cemi: &[u8], out: &mu
     ensures { λ r. ⌜ SendPromise (now (image .entry)) id (now (cemi .entry)) (now (out .entry)) r (now (image .exit)) (now (out .exit)) ⌝ }
 {
     if image.len() < image::SIZE {
-        return too_small();
+        return refused(Refusal::BufferTooSmall);
     }
     keep(image::unpack(image).send(id, cemi, out), image)
 }
 
+// A datagram that is refused by its bytes alone needs no table.
 #[no_mangle]
 pub extern "C" fn knx_table_datagram(image: &mut [u8], bytes: &[u8], out: &mut [u8]) -> KnxCalled
     ensures { λ r. ⌜ DatagramPromise (now (image .entry)) (now (bytes .entry)) (now (out .entry)) r (now (image .exit)) (now (out .exit)) ⌝ }
 {
     if image.len() < image::SIZE {
-        return too_small();
+        return refused(Refusal::BufferTooSmall);
     }
-    keep(image::unpack(image).datagram(bytes, out), image)
+    let heard = datagram::hear(bytes);
+    if let Heard::Refused(why) = heard {
+        return refused(why);
+    }
+    keep(image::unpack(image).heard(heard, out), image)
 }
 
 // What a call on the table gave, as numbers; the table is packed again unless the call was refused.
@@ -89,7 +92,7 @@ fn keep(called: Called, image: &mut [u8]) -> KnxCalled
         start: called.start,
         end: called.end,
         written: called.written,
-        said: said_number(said),
+        said: said.number(),
         number: called.number,
     };
     if called.number == 0 {
@@ -98,29 +101,14 @@ fn keep(called: Called, image: &mut [u8]) -> KnxCalled
     answer
 }
 
-fn too_small() -> KnxCalled
-    ensures { λ r. ⌜ TooSmallPromise r ⌝ }
+fn refused(why: Refusal) -> KnxCalled
+    ensures { λ r. ⌜ RefusedPromise why r ⌝ }
 {
     KnxCalled {
         start: 0,
         end: 0,
         written: 0,
         said: 0,
-        number: Refusal::BufferTooSmall.number(),
-    }
-}
-
-fn said_number(said: Said) -> u8
-    ensures { λ r. ⌜ r ≡ saidOf said ⌝ }
-{
-    match said {
-        Said::Nothing => 0,
-        Said::Repeat => 1,
-        Said::GiveUp => 2,
-        Said::Deliver => 3,
-        Said::Duplicate => 4,
-        Said::OutOfOrder => 5,
-        Said::Sent => 6,
-        Said::Ignored => 7,
+        number: why.number(),
     }
 }

@@ -1,8 +1,6 @@
 // From cEMI to L_Data in one call.
 ghost use mathlib.Core.Path.{_≡_};
-ghost use Rattle.host.specs.CemiLData.{CemiLDataPromise, RefusedPromise, Accepted, ReadPromise, codeOfBytes, namedIn, namedRow, sixBitIn};
-ghost use Rattle.ldata.specs.Count.{startOf};
-ghost use Rattle.pci.specs.Transport.{sequenceOf};
+ghost use Rattle.host.specs.CemiLData.{CemiLDataPromise, RefusedPromise, Accepted, ReadPromise, codeOfBytes, namedIn, sixBitIn};
 use cemi::CEMIAnswer;
 use cemi::CEMIFrame;
 use ldata::LDataAnswer;
@@ -41,7 +39,7 @@ pub extern "C" fn knx_cemi_ldata(data: &[u8]) -> KnxLData
     }
 }
 
-// TPCI and APCI are read off their bytes once more, which costs less than by way of their names.
+// TPCI and APCI are read off their bytes, which costs less than by way of their names.
 fn read(data: &[u8], fields: LDataFields) -> KnxLData
     requires { ⌜ Accepted (now «data») fields ⌝ }
     ensures { λ r. ⌜ ReadPromise (now («data» .entry)) r ⌝ }
@@ -50,14 +48,14 @@ fn read(data: &[u8], fields: LDataFields) -> KnxLData
     let rest = wire::part(data, base, data.len());
     let tpci = wire::byte_at(rest, 7);
     let second = wire::byte_at(rest, 8);
-    let is_data = tpci / 64 < 2;
+    let kind = pci::kind_in(tpci);
+    let is_data = kind < 2;
     let ctrl1 = fields.ctrl1;
     let ctrl2 = fields.ctrl2;
     let source = fields.source;
-    let stop = 7 + fields.npdu_length as usize;
     KnxLData {
-        start: base + start_of(is_data),
-        end: base + stop,
+        start: base + ldata::data_start(is_data),
+        end: base + ldata::data_end(fields.npdu_length),
         source: source.to_u16(),
         destination: fields.destination_raw,
         apci_code: code_of(is_data, tpci, second),
@@ -65,34 +63,20 @@ fn read(data: &[u8], fields: LDataFields) -> KnxLData
         control_1: ctrl1.to_u8(),
         control_2: ctrl2.to_u8(),
         npdu_length: fields.npdu_length,
-        tpci_kind: tpci / 64,
-        tpci_sequence: sequence_of(tpci),
+        tpci_kind: kind,
+        tpci_sequence: pci::sequence_in(tpci),
         apci_named: named(is_data, tpci, second),
         six_bit: six_bit_of(is_data, second),
         number: 0,
     }
 }
 
-fn start_of(is_data: bool) -> usize
-    ensures { λ r. ⌜ r ≡ startOf «is_data» ⌝ }
-{
-    if is_data { 9 } else { 8 }
-}
-
+// A control packet has no code, no name and no number.
 fn code_of(is_data: bool, first: u8, second: u8) -> u16
     ensures { λ r. ⌜ r ≡ codeOfBytes «is_data» first second ⌝ }
 {
     if is_data {
-        return (first % 4) as u16 * 256 + (second / 64) as u16 * 64;
-    }
-    0
-}
-
-fn sequence_of(tpci: u8) -> u8
-    ensures { λ r. ⌜ r ≡ sequenceOf tpci ⌝ }
-{
-    if tpci / 64 % 2 == 1 {
-        return tpci / 4 % 16;
+        return pci::code_in(first, second);
     }
     0
 }
@@ -110,20 +94,9 @@ fn named(is_data: bool, first: u8, second: u8) -> u8
     ensures { λ r. ⌜ r ≡ namedIn «is_data» first second ⌝ }
 {
     if is_data {
-        return row_named(first % 4 * 4 + second / 64);
-    }
-    0
-}
-
-// Of the sixteen codes three have no name.
-fn row_named(row: u8) -> u8
-    ensures { λ r. ⌜ r ≡ namedRow row ⌝ }
-{
-    if row == 11 {
-        return 0;
-    }
-    if row < 14 {
-        return 1;
+        if pci::is_named_in(first, second) {
+            return 1;
+        }
     }
     0
 }

@@ -9,8 +9,7 @@ use Rattle.wire.specs.Layout.{Field, byte, put, get}
 use Rattle.wire.specs.Written.{onto, WritePromise}
 use Rattle.wire.specs.declared.refusals.Refusal.the-variants.{BufferTooSmall}
 use Rattle.wire.specs.declared.refusals.Written.{Written}
-use Rattle.tunnel.specs.declared.Wait.{Wait}
-use Rattle.tunnel.specs.declared.Wait.the-variants.{Idle, First, Second}
+use Rattle.tunnel.specs.Numbers.{waitNumber, waitOf}
 use Rattle.tunnel_model.specs.Store.{step}
 use Rattle.tunnel_model.specs.Calls.{Call, Outcome, outOf, refuses}
 use Rattle.tunnel_model.specs.Table.{chan, storeOf}
@@ -25,16 +24,6 @@ use Rattle.table.specs.declared.calls.Table.{Table}
 -- held, id, r, s, waiting
 abbrev pub fields : List Field
 fields = byte ∷ byte ∷ byte ∷ byte ∷ byte ∷ []
-
--- what a channel waits for, by cases
-abbrev pub waitNumber : Wait → ℕ
-waitNumber Idle = 0
-waitNumber First = 1
-waitNumber Second = 2
-
--- read: 0 is idle, 1 waiting first, every other number waiting second
-abbrev pub waitOf : ℕ → Wait
-waitOf n = cond (eqb n 0) Idle (cond (eqb n 1) First Second)
 
 -- written: a free place is five zeros
 abbrev pub values : Hold → List ℕ

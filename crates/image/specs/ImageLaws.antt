@@ -16,8 +16,8 @@ use Rattle.wire.specs.ToldLaws.{same}
 use Rattle.wire.specs.WrittenLaws.{write-one}
 use Rattle.wire.specs.declared.refusals.Refusal.the-variants.{BufferTooSmall}
 use Rattle.wire.specs.declared.refusals.Written.{Written}
+use Rattle.tunnel.specs.Numbers.{wait-back}
 use Rattle.tunnel.specs.declared.Wait.{Wait}
-use Rattle.tunnel.specs.declared.Wait.the-variants.{Idle, First, Second}
 use Rattle.tunnel_model.specs.PlacesLaws.{step-long}
 use Rattle.tunnel_model.specs.Calls.{Call, Outcome, outOf, refuses}
 use Rattle.tunnel_model.specs.Refusing.{IsRefusal, Clean, refusal-zeros, table-leaves}
@@ -27,14 +27,9 @@ use Rattle.table.specs.declared.calls.Table.{Table}
 use Rattle.table.specs.declared.places.Hold.{Hold}
 use Rattle.table.specs.declared.places.Hold.the-variants.{Free, Held}
 use Rattle.table.specs.declared.places.Place.{Place}
-use Rattle.image.specs.Image.{fields, waitNumber, waitOf, values, holdOf, layout, packed, placesFrom, unpacked, UnpackPromise, PackPromise, kept, stepIn, onImage}
+use Rattle.image.specs.Image.{fields, values, holdOf, layout, packed, placesFrom, unpacked, UnpackPromise, PackPromise, kept, stepIn, onImage}
 
 -- ---- there and back
-
-wait-back : (w : Wait) → waitOf (waitNumber w) ≡ w
-wait-back Idle = refl
-wait-back First = refl
-wait-back Second = refl
 
 hold-back : (h : Hold) → holdOf (values h) ≡ h
 hold-back Free = refl

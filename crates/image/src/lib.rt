@@ -2,7 +2,7 @@
 ghost use mathlib.Core.Path.{_≡_};
 ghost use Prim.Native.Nat.{_≤_};
 ghost use Rattle.wire.specs.Layout.{copied};
-ghost use Rattle.image.specs.Image.{placeAt, layout, waitOf, waitNumber, UnpackPromise, PackPromise};
+ghost use Rattle.image.specs.Image.{placeAt, layout, UnpackPromise, PackPromise};
 use table::Hold;
 use table::Place;
 use table::Table;
@@ -55,7 +55,7 @@ fn place_at(image: &[u8], at: usize) -> Place
     let tunnel = Tunnel {
         r: wire::byte_at(image, at + 2),
         s: wire::byte_at(image, at + 3),
-        w: wait_of(wire::byte_at(image, at + 4)),
+        w: Wait::from_u8(wire::byte_at(image, at + 4)),
     };
     Place {
         hold: Hold::Held {
@@ -80,27 +80,7 @@ fn place_bytes(p: Place) -> [u8; 5]
         Hold::Free => [0, 0, 0, 0, 0],
         Hold::Held { id, tunnel } => {
             let w = tunnel.w;
-            [1, id, tunnel.r, tunnel.s, wait_number(w)]
+            [1, id, tunnel.r, tunnel.s, w.number()]
         }
-    }
-}
-
-fn wait_of(n: u8) -> Wait
-    ensures { λ r. ⌜ r ≡ waitOf n ⌝ }
-{
-    match n {
-        0 => Wait::Idle,
-        1 => Wait::First,
-        _ => Wait::Second,
-    }
-}
-
-fn wait_number(w: Wait) -> u8
-    ensures { λ r. ⌜ r ≡ waitNumber w ⌝ }
-{
-    match w {
-        Wait::Idle => 0,
-        Wait::First => 1,
-        Wait::Second => 2,
     }
 }

@@ -87,6 +87,12 @@ dataBy01 C f s = judged (recordChecks C f (length s)) (viewed (startOf (isData (
 
 -- ---- what the functions promise, with the crate's count
 
+abbrev pub DataStartPromise : Bool → ℕ → Type 0
+DataStartPromise d r = r ≡ startOf d
+
+abbrev pub DataEndPromise : ℕ → ℕ → Type 0
+DataEndPromise l r = r ≡ crateCount .endOf l
+
 abbrev pub ParsePromise : List ℕ → LDataAnswer → Type 0
 ParsePromise s r = told r ≡ parseBy01 crateCount s
 

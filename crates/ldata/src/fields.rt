@@ -1,8 +1,8 @@
 // `LDataFrame` without its data: the fields of an L_Data frame, whose slice stands beside it as a parameter.
 ghost use mathlib.Core.Path.{_≡_};
 ghost use Rattle.wire.specs.Told.{verdict};
-ghost use Rattle.ldata.specs.Count.{crateCount, startOf};
-ghost use Rattle.ldata.specs.LData.{checks, ApciPromise, ParsePromise, DataPromise, DataPartPromise, DestinationGroupPromise, DestinationIndividualPromise, IsServicePromise};
+ghost use Rattle.ldata.specs.Count.{crateCount};
+ghost use Rattle.ldata.specs.LData.{checks, DataStartPromise, DataEndPromise, ApciPromise, ParsePromise, DataPromise, DataPartPromise, DestinationGroupPromise, DestinationIndividualPromise, IsServicePromise};
 use crate::destination::GroupAddressAnswer;
 use crate::destination::IndividualAddressAnswer;
 use address::GroupAddress;
@@ -68,12 +68,11 @@ impl LDataFields {
     {
         let tpci = self.tpci;
         let is_data = tpci.is_data();
-        let end = 7 + self.npdu_length as usize;
         match stands(data.len(), is_data, self.npdu_length) {
             Verdict::Accept => View {
                 number: 0,
                 start: data_start(is_data),
-                end,
+                end: data_end(self.npdu_length),
             },
             Verdict::Refuse(why) => View::refused(why),
         }
@@ -138,10 +137,18 @@ fn apci_of(is_data: bool, byte1: u8, byte2: u8) -> Apci
     Apci::Unknown(0)
 }
 
-fn data_start(is_data: bool) -> usize
-    ensures { λ r. ⌜ r ≡ startOf «is_data» ⌝ }
+// Where the application data starts, by the kind of packet.
+pub fn data_start(is_data: bool) -> usize
+    ensures { λ r. ⌜ DataStartPromise «is_data» r ⌝ }
 {
     if is_data { 9 } else { 8 }
+}
+
+// Where it ends, by L: the crate's count.
+pub fn data_end(npdu_length: u8) -> usize
+    ensures { λ r. ⌜ DataEndPromise «npdu_length» r ⌝ }
+{
+    7 + npdu_length as usize
 }
 
 // The checks of an L_Data frame over a slice of n bytes, whoever made its fields.
@@ -151,7 +158,7 @@ fn stands(n: usize, is_data: bool, npdu_length: u8) -> Verdict
     if n < LDataFields::MIN_SIZE {
         return Verdict::Refuse(Refusal::BufferTooSmall);
     }
-    let end = 7 + npdu_length as usize;
+    let end = data_end(npdu_length);
     if n < end {
         return Verdict::Refuse(Refusal::InvalidFrame);
     }

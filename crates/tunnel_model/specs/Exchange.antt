@@ -25,7 +25,8 @@ use Rattle.tunnel.specs.declared.Tunnel.{Tunnel}
 use Rattle.tunnel.specs.declared.Arrival.{Arrival}
 use Rattle.tunnel.specs.declared.Arrival.the-variants.{Deliver, Duplicate, OutOfOrder}
 use Rattle.tunnel.specs.declared.Said.the-variants.{Nothing}
-use Rattle.tunnel_model.specs.Calls.{Send, Datagram, refuses, saidOf}
+use Rattle.tunnel.specs.Numbers.{saidOf}
+use Rattle.tunnel_model.specs.Calls.{Send, Datagram, refuses}
 use Rattle.tunnel_model.specs.Lone.{After, orRefused, request, ack, arrived, heard, lone}
 
 -- ---- an answer of 0 is not the refusal

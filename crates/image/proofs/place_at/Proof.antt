@@ -31,8 +31,8 @@ add-byte-at-3 c = search needs
 byte-at-requires-4 : tie.Need-byte-at-requires-4
 byte-at-requires-4 c κs = search needs
 
-wait-of-requires : tie.Need-wait-of-requires
-wait-of-requires c κs = search needs
+from-u8-requires : tie.Need-from-u8-requires
+from-u8-requires c κs = search needs
 
 add-byte-at-4 : tie.Need-add-byte-at-4
 add-byte-at-4 c = search needs
@@ -47,7 +47,7 @@ returns-2 c =
     let fourth : a .at + 2 + 1 ≡ a .at + 3 = omega arith in
     let fifth : a .at + 3 + 1 ≡ a .at + 4 = omega arith in
     let held = ne-eqb _ _ (λ e. c .before .before .before .before .before .if1 .left (c .before .before .before .before .before .before .byte-at .ensures ∙ e)) in
-    simp (held, third, fourth, fifth, c .byte-at5 .ensures, c .before .wait-of .ensures, c .before .before .byte-at4 .ensures, c .before .before .before .byte-at3 .ensures, c .before .before .before .before .byte-at2 .ensures)
+    simp (held, third, fourth, fifth, c .byte-at5 .ensures, c .before .from-u8 .ensures, c .before .before .byte-at4 .ensures, c .before .before .before .byte-at3 .ensures, c .before .before .before .before .byte-at2 .ensures)
 
 pub place-at-spec : {M : Type 1} → statement M
 place-at-spec =
@@ -61,7 +61,7 @@ place-at-spec =
     byte-at-requires-3
     add-byte-at-3
     byte-at-requires-4
-    wait-of-requires
+    from-u8-requires
     add-byte-at-4
     byte-at-requires-5
     returns-2)

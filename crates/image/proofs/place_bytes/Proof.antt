@@ -9,8 +9,8 @@ enum-told c = search needs
 enum-known-h : tie.Need-enum-known-h
 enum-known-h c = search needs
 
-wait-number-requires : tie.Need-wait-number-requires
-wait-number-requires c κs = search needs
+number-requires : tie.Need-number-requires
+number-requires c κs = search needs
 
 returns : tie.Need-returns
 returns c = rw (c .enum-told .given .1)
@@ -18,8 +18,8 @@ returns c = rw (c .enum-told .given .1)
 returns-2 : tie.Need-returns-2
 returns-2 c =
     let held = c .before .before .h .given in
-    simp (held .1, c .wait-number .ensures)
+    simp (held .1, c .number .ensures)
 
 pub place-bytes-spec : {M : Type 1} → statement M
 place-bytes-spec =
-    tie.close (tie.spec enum-told enum-known-h wait-number-requires returns returns-2)
+    tie.close (tie.spec enum-told enum-known-h number-requires returns returns-2)

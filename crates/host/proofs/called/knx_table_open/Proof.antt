@@ -6,13 +6,13 @@ use borrow.Author.Needs.{needs}
 use Rattle.host.proofs.called.knx_table_open.Statement.{statement}
 use Rattle.host.proofs.called.knx_table_open.Tie as tie
 
-too-small-requires : tie.Need-too-small-requires
-too-small-requires c κs = search needs
+refused-requires : tie.Need-refused-requires
+refused-requires c κs = search needs
 
 returns : tie.Need-returns
 returns c =
     let a = c .before .before .before .args in
-    small-call (a .image .now) (Open (a .id)) _ (c .before .if1 .taken) (c .too-small .ensures)
+    small-call (a .image .now) (Open (a .id)) _ (c .before .if1 .taken) (c .refused .ensures)
 
 unpack-requires : tie.Need-unpack-requires
 unpack-requires c κs = search needs
@@ -35,7 +35,7 @@ pub knx-table-open-spec : {M : Type 1} → statement M
 knx-table-open-spec =
     tie.close
     (tie.spec
-    too-small-requires
+    refused-requires
     returns
     unpack-requires
     open-requires

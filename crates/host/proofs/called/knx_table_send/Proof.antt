@@ -5,13 +5,13 @@ use borrow.Author.Needs.{needs}
 use Rattle.host.proofs.called.knx_table_send.Statement.{statement}
 use Rattle.host.proofs.called.knx_table_send.Tie as tie
 
-too-small-requires : tie.Need-too-small-requires
-too-small-requires c κs = search needs
+refused-requires : tie.Need-refused-requires
+refused-requires c κs = search needs
 
 returns : tie.Need-returns
 returns c =
     let a = c .before .before .before .before .before .args in
-    small-call (a .image .now) (Send (a .id) (a .cemi .now) (a .out .now)) _ (c .before .if1 .taken) (c .too-small .ensures)
+    small-call (a .image .now) (Send (a .id) (a .cemi .now) (a .out .now)) _ (c .before .if1 .taken) (c .refused .ensures)
 
 unpack-requires : tie.Need-unpack-requires
 unpack-requires c κs = search needs
@@ -37,7 +37,7 @@ pub knx-table-send-spec : {M : Type 1} → statement M
 knx-table-send-spec =
     tie.close
     (tie.spec
-    too-small-requires
+    refused-requires
     returns
     unpack-requires
     send-requires

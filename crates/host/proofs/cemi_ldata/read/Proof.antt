@@ -1,5 +1,4 @@
 -- Where the rest starts, then every number as it was read. Assumes nothing.
-use Prim.Native.Nat.{_/_}
 use native.Mathlib.Omega.{arith}
 use lib.Dec.{ltb}
 use Rattle.host.specs.CemiLDataLaws.{reads, rest-is, start-most}
@@ -25,20 +24,20 @@ byte-at-requires-2 c κs = search needs
 byte-at-requires-3 : tie.Need-byte-at-requires-3
 byte-at-requires-3 c κs = search needs
 
-cast-stop : tie.Need-cast-stop
-cast-stop c = search needs
+kind-in-requires : tie.Need-kind-in-requires
+kind-in-requires c κs = search needs
 
-add-stop : tie.Need-add-stop
-add-stop c = search needs
-
-start-of-requires : tie.Need-start-of-requires
-start-of-requires c κs = search needs
+data-start-requires : tie.Need-data-start-requires
+data-start-requires c κs = search needs
 
 add-t14 : tie.Need-add-t14
-add-t14 c = omega (arith, c .start-of .ensures, start-most (ltb (c .before .before .before .before .before .before .byte-at2 .result / 64) 2))
+add-t14 c = omega (arith, c .data-start .ensures, start-most (ltb (c .before .before .before .before .kind-in .result) 2))
 
-add-t15 : tie.Need-add-t15
-add-t15 c = search needs
+data-end-requires : tie.Need-data-end-requires
+data-end-requires c κs = search needs
+
+add-t16 : tie.Need-add-t16
+add-t16 c = omega (arith, c .data-end .ensures)
 
 to-u16-requires : tie.Need-to-u16-requires
 to-u16-requires c κs = search needs
@@ -55,8 +54,8 @@ to-u8-requires c κs = search needs
 to-u8-requires-2 : tie.Need-to-u8-requires-2
 to-u8-requires-2 c κs = search needs
 
-sequence-of-requires : tie.Need-sequence-of-requires
-sequence-of-requires c κs = search needs
+sequence-in-requires : tie.Need-sequence-in-requires
+sequence-in-requires c κs = search needs
 
 named-requires : tie.Need-named-requires
 named-requires c κs = search needs
@@ -66,13 +65,16 @@ six-bit-of-requires c κs = search needs
 
 returns : tie.Need-returns
 returns c =
-    let a = c .before .before .before .before .before .before .before .before .before .before .before .before .before .before .before .before .before .before .args in
-    let at-base = c .before .before .before .before .before .before .before .before .before .before .before .before .before .before .before .before in
-    let at-part = c .before .before .before .before .before .before .before .before .before .before .before .before .before .before .before .part in
-    let first = c .before .before .before .before .before .before .before .before .before .before .before .before .before .before .byte-at2 in
-    let second = c .before .before .before .before .before .before .before .before .before .before .before .before .before .byte-at3 in
-    simp (c .before .before .before .before .before .before .before .before .start-of .ensures, c .before .before .before .before .before .before .before .to-u16 .ensures, c .before .before .before .before .before .before .code-of .ensures, c .before .before .before .before .before .byte-at4 .ensures, c .before .before .before .before .to-u8 .ensures, c .before .before .before .to-u82 .ensures, c .before .before .sequence-of .ensures, c .before .named .ensures, c .six-bit-of .ensures)
-    (reads (a .«data» .now) (a .fields) (c .before .before .before .before .before .before .before .before .before .before .before .before .before .before .before .before .before .before .pre) (at-base .byte-at .result) (at-part .result .now) (at-base .byte-at .ensures)
+    let at-end = c .before .before .before .before .before .before .before .before in
+    let at-kind = at-end .before .before .before .before .before in
+    let second = at-kind .before .byte-at3 in
+    let first = at-kind .before .before .byte-at2 in
+    let at-part = at-kind .before .before .before .part in
+    let at-base = at-kind .before .before .before .before in
+    let at-start = at-base .before .before in
+    let a = at-start .args in
+    simp (at-kind .kind-in .ensures, at-end .data-end .ensures, at-end .before .data-start .ensures, c .before .before .before .before .before .before .before .to-u16 .ensures, c .before .before .before .before .before .before .code-of .ensures, c .before .before .before .before .before .byte-at4 .ensures, c .before .before .before .before .to-u8 .ensures, c .before .before .before .to-u82 .ensures, c .before .before .sequence-in .ensures, c .before .named .ensures, c .six-bit-of .ensures)
+    (reads (a .«data» .now) (a .fields) (at-start .pre) (at-base .byte-at .result) (at-part .result .now) (at-base .byte-at .ensures)
     (rest-is (a .«data» .now) (at-base .byte-at .result) (at-part .result .now) (at-base .byte-at .ensures) (at-part .ensures))
     (first .result) (second .result) (first .ensures) (second .ensures))
 
@@ -86,17 +88,17 @@ read-spec =
     part-requires
     byte-at-requires-2
     byte-at-requires-3
-    cast-stop
-    add-stop
-    start-of-requires
+    kind-in-requires
+    data-start-requires
     add-t14
-    add-t15
+    data-end-requires
+    add-t16
     to-u16-requires
     code-of-requires
     byte-at-requires-4
     to-u8-requires
     to-u8-requires-2
-    sequence-of-requires
+    sequence-in-requires
     named-requires
     six-bit-of-requires
     returns)

@@ -15,12 +15,6 @@ use Rattle.ldata.proofs.fields.LDataFields.data.Tie as tie
 is-data-requires : tie.Need-is-data-requires
 is-data-requires c κs = search needs
 
-cast-end : tie.Need-cast-end
-cast-end c = search needs
-
-add-end : tie.Need-add-end
-add-end c = search needs
-
 stands-requires : tie.Need-stands-requires
 stands-requires c κs = search needs
 
@@ -29,6 +23,9 @@ enum-told c = search needs
 
 data-start-requires : tie.Need-data-start-requires
 data-start-requires c κs = search needs
+
+data-end-requires : tie.Need-data-end-requires
+data-end-requires c κs = search needs
 
 enum-known-why : tie.Need-enum-known-why
 enum-known-why c = search needs
@@ -41,16 +38,18 @@ returns c =
     let a = c .before .before .before .before .before .before .before .args in
     let n = length (a .«data» .now) in
     let l = a .self .«npdu_length» in
-    let over = ap (λ (d : Bool). verdict (checks crateCount n d l)) (c .before .before .before .before .before .is-data .ensures) in
-    ap (λ (k : ℕ). viewed k (7 + l)) (c .data-start .ensures ∙ ap startOf (c .before .before .before .before .before .is-data .ensures))
-    ∙ sym (let-pass (recordChecks crateCount (a .self) n) (viewed (startOf (isData (a .self .tpci))) (7 + l)) (sym over ∙ sym (c .before .before .before .stands .ensures) ∙ c .before .enum-told .given .1))
+    let packet = c .before .before .before .before .before .is-data .ensures in
+    let over = ap (λ (d : Bool). verdict (checks crateCount n d l)) packet in
+    let start = c .before .data-start .ensures ∙ ap startOf packet in
+    ap (viewed (c .before .data-start .result)) (c .data-end .ensures) ∙ ap (λ (k : ℕ). viewed k (7 + l)) start
+    ∙ sym (let-pass (recordChecks crateCount (a .self) n) (viewed (startOf (isData (a .self .tpci))) (7 + l)) (sym over ∙ sym (c .before .before .before .before .stands .ensures) ∙ c .before .before .enum-told .given .1))
 
 returns-2 : tie.Need-returns-2
 returns-2 c =
-    let a = c .before .before .before .before .before .before .before .before .args in
+    let a = c .before .before .before .before .before .before .before .args in
     let n = length (a .«data» .now) in
     let l = a .self .«npdu_length» in
-    let over = ap (λ (d : Bool). verdict (checks crateCount n d l)) (c .before .before .before .before .before .before .is-data .ensures) in
+    let over = ap (λ (d : Bool). verdict (checks crateCount n d l)) (c .before .before .before .before .before .is-data .ensures) in
     let why = c .before .before .why .given in
     c .refused .ensures ∙ sym (let-refuse (recordChecks crateCount (a .self) n) (viewed (startOf (isData (a .self .tpci))) (7 + l)) (why .0 .0) (sym over ∙ sym (c .before .before .before .before .stands .ensures) ∙ why .1))
 
@@ -59,11 +58,10 @@ data-spec =
     tie.close
     (tie.spec
     is-data-requires
-    cast-end
-    add-end
     stands-requires
     enum-told
     data-start-requires
+    data-end-requires
     enum-known-why
     refused-requires
     returns

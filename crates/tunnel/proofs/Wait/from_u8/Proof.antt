@@ -1,7 +1,7 @@
 -- One arm each. Assumes nothing.
 use borrow.Author.Tests.{ne-eqb}
-use Rattle.image.proofs.wait_of.Statement.{statement}
-use Rattle.image.proofs.wait_of.Tie as tie
+use Rattle.tunnel.proofs.Wait.from_u8.Statement.{statement}
+use Rattle.tunnel.proofs.Wait.from_u8.Tie as tie
 
 returns : tie.Need-returns
 returns c = simp (c .match .keys1)
@@ -12,5 +12,5 @@ returns-2 c = simp (c .match .keys2)
 returns-3 : tie.Need-returns-3
 returns-3 c = let r = c .match .rest in simp (ne-eqb _ _ (r .1), ne-eqb _ _ (r .0 .1))
 
-pub wait-of-spec : {M : Type 1} → statement M
-wait-of-spec = tie.close (tie.spec returns returns-2 returns-3)
+pub from-u8-spec : {M : Type 1} → statement M
+from-u8-spec = tie.close (tie.spec returns returns-2 returns-3)

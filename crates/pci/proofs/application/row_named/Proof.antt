@@ -1,0 +1,13 @@
+-- `row_named` keeps its contract. Assumes nothing.
+use borrow.Author.Tests.{eq-eqb, ne-eqb}
+use Rattle.pci.proofs.application.row_named.Statement.{statement}
+use Rattle.pci.proofs.application.row_named.Tie as tie
+
+returns : tie.Need-returns
+returns c = simp (eq-eqb _ _ (c .if1 .taken))
+
+returns-2 : tie.Need-returns-2
+returns-2 c = simp (ne-eqb _ _ (c .if1 .left))
+
+pub row-named-spec : {M : Type 1} → statement M
+row-named-spec = tie.close (tie.spec returns returns-2)
