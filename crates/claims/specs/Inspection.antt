@@ -9,18 +9,18 @@ use Rattle.wire.specs.declared.refusals.Written.the-variants.{Bytes}
 use Rattle.kip.specs.Capture.{startsBy01, whole, recordsOf, leftOf, records, left, NextPromise}
 use Rattle.digits.specs.Digits.{digitsOf, decimal, hexDigit, readFrom, tens, hexValue}
 use Rattle.digits.specs.DigitLaws as DigitLaws
-use Rattle.kip.specs.Judge as Judge
-use Rattle.kip.specs.Line.{lineOf, endingOf, EndingPromise}
+use Rattle.kip_inspect.specs.Judge as Judge
+use Rattle.kip_inspect.specs.Line.{lineOf, endingOf, EndingPromise}
 use Rattle.kip.specs.Stepping.{Move, Named, HandedOn, begun, ran}
 use Rattle.kip.specs.Stepping as Stepping
-use Rattle.kip.specs.Scan.{scanned, scanOf, ScanPromise}
-use Rattle.kip.specs.Printed.{Printed}
-use Rattle.kip.specs.Printed as Printing
-use Rattle.kip.specs.Inspecting.{Inspecting, Step, ScanOn, WriteOut, ToFront, ReadOn, SoFar, AtEnd, unread, gathered, stepped, inspecting, output, inspectedBy01}
-use Rattle.kip.specs.Inspecting as Inspects
+use Rattle.kip_inspect.specs.Scan.{scanned, scanOf, ScanPromise}
+use Rattle.kip_inspect.specs.Printed.{Printed}
+use Rattle.kip_inspect.specs.Printed as Printing
+use Rattle.kip_inspect.specs.Inspecting.{Inspecting, Step, ScanOn, WriteOut, ToFront, ReadOn, SoFar, AtEnd, unread, gathered, stepped, inspecting, output, inspectedBy01}
+use Rattle.kip_inspect.specs.Inspecting as Inspects
 use Rattle.kip.specs.declared.capture.Next.the-variants.{Record}
-use Rattle.kip.specs.declared.scanning.Spot.{Spot}
-use Rattle.kip.specs.declared.scanning.Scanned.{Scanned}
+use Rattle.kip_inspect.specs.declared.scanning.Spot.{Spot}
+use Rattle.kip_inspect.specs.declared.scanning.Scanned.{Scanned}
 
 -- whatever moves hand on records and read on: when all is read and no whole record is left, the records of the whole were handed on, in order, and what is left is the unfinished one
 pub hands-on : (s : List ℕ) (ms : List Move) → ran (begun s) ms .ahead ≡ [] → whole (ran (begun s) ms .unread) ≡ false → HandedOn s (ran (begun s) ms)

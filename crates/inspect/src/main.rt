@@ -1,5 +1,5 @@
 // The inspection program: a capture on standard input, or those that its arguments name, and a line for each record on standard output.
-use kip::Spot;
+use kip_inspect::Spot;
 use libc::STDIN_FILENO;
 use libc::STDOUT_FILENO;
 use wire::Written;
@@ -71,7 +71,7 @@ fn read_more(fd: i32, input: &mut [u8], have: usize) -> usize {
 fn turn(fd: i32, input: &mut [u8], out: &mut [u8], reading: Reading) -> Turned {
     let from = reading.spot;
     let have = reading.have;
-    let scanned = kip::scan(wire::part(input, 0, have), out, from);
+    let scanned = kip_inspect::scan(wire::part(input, 0, have), out, from);
     let spot = scanned.spot;
     if scanned.full {
         io::write_all(STDOUT_FILENO, wire::part(out, 0, spot.used));
@@ -127,7 +127,7 @@ fn records(fd: i32, input: &mut [u8], out: &mut [u8]) {
     let reading = run(fd, input, out);
     let spot = reading.spot;
     io::write_all(STDOUT_FILENO, wire::part(out, 0, spot.used));
-    match kip::ending(spot.n, spot.at < reading.have, out) {
+    match kip_inspect::ending(spot.n, spot.at < reading.have, out) {
         Written::Bytes(k) => {
             io::write_all(STDOUT_FILENO, wire::part(out, 0, k));
         }

@@ -5,11 +5,11 @@ use Prim.Native.Nat.{ℕ}
 use lib.ListN.{getD}
 use borrow.Author.Tests.{eq-eqb, ne-eqb}
 use Rattle.wire.specs.Written.{WritePromise}
-use Rattle.kip.specs.Line.{numbered}
-use Rattle.kip.specs.LineLaws.{framed-line, refused-line}
+use Rattle.kip_inspect.specs.Line.{numbered}
+use Rattle.kip_inspect.specs.LineLaws.{framed-line, refused-line}
 use borrow.Author.Needs.{needs}
-use Rattle.kip.proofs.lines.line.Statement.{statement}
-use Rattle.kip.proofs.lines.line.Tie as tie
+use Rattle.kip_inspect.proofs.lines.line.Statement.{statement}
+use Rattle.kip_inspect.proofs.lines.line.Tie as tie
 
 hex4-requires : tie.Need-hex4-requires
 hex4-requires c κs = search needs

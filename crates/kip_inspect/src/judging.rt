@@ -1,5 +1,5 @@
 // What the frame checks say of a record.
-ghost use Rattle.kip.specs.Judge.{JudgePromise};
+ghost use Rattle.kip_inspect.specs.Judge.{JudgePromise};
 use frame::FrameAnswer;
 use frame::FrameFields;
 

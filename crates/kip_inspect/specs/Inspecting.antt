@@ -11,14 +11,14 @@ use Rattle.wire.specs.ToldLaws.{same-test}
 use Rattle.wire.specs.Written.{room}
 use Rattle.wire.specs.WrittenLaws.{wrote}
 use Rattle.wire.specs.declared.refusals.Written.the-variants.{Bytes}
 use Rattle.kip.specs.Capture.{whole, records, left}
-use Rattle.kip.specs.Judge.{judgeBy01}
-use Rattle.kip.specs.Line.{lineTold, endingOf, EndingPromise}
+use Rattle.kip_inspect.specs.Judge.{judgeBy01}
+use Rattle.kip_inspect.specs.Line.{lineTold, endingOf, EndingPromise}
 use Rattle.kip.specs.Stepping.{Reading, Fill, Kept, keeps, kept-ends, begun-kept}
-use Rattle.kip.specs.Scan.{Scan, follows, scanOf, ScanPromise}
-use Rattle.kip.specs.Printed.{linesOf, lines-on, scan-prints, scan-ends, stands, room-left}
-use Rattle.kip.specs.declared.scanning.Spot.{Spot}
-use Rattle.kip.specs.declared.scanning.Scanned.{Scanned}
+use Rattle.kip_inspect.specs.Scan.{Scan, follows, scanOf, ScanPromise}
+use Rattle.kip_inspect.specs.Printed.{linesOf, lines-on, scan-prints, scan-ends, stands, room-left}
+use Rattle.kip_inspect.specs.declared.scanning.Spot.{Spot}
+use Rattle.kip_inspect.specs.declared.scanning.Scanned.{Scanned}
 
 -- ---- the program's turns
 

@@ -6,11 +6,11 @@ use mathlib.Core.List.{List}
 use lib.ListN.{length, drop, length-drop}
 use lib.Seq.{take-all}
 use Rattle.wire.specs.Written.{WritePromise}
-use Rattle.kip.specs.Line.{lineOf}
-use Rattle.kip.specs.ScanLaws.{put-behind, to-the-end, no-place}
+use Rattle.kip_inspect.specs.Line.{lineOf}
+use Rattle.kip_inspect.specs.ScanLaws.{put-behind, to-the-end, no-place}
 use borrow.Author.Needs.{needs}
-use Rattle.kip.proofs.scanning.put_line.Statement.{statement}
-use Rattle.kip.proofs.scanning.put_line.Tie as tie
+use Rattle.kip_inspect.proofs.scanning.put_line.Statement.{statement}
+use Rattle.kip_inspect.proofs.scanning.put_line.Tie as tie
 
 returns : tie.Need-returns
 returns c =

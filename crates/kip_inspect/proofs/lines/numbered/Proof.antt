@@ -4,10 +4,10 @@ use native.Mathlib.Omega.{arith}
 use lib.ListN.{length}
 use Rattle.digits.specs.Digits.{decimal}
 use Rattle.digits.specs.DigitLaws.{places-most, decimal-stored}
-use Rattle.kip.specs.LineLaws.{no-room, laid}
+use Rattle.kip_inspect.specs.LineLaws.{no-room, laid}
 use borrow.Author.Needs.{needs}
-use Rattle.kip.proofs.lines.numbered.Statement.{statement}
-use Rattle.kip.proofs.lines.numbered.Tie as tie
+use Rattle.kip_inspect.proofs.lines.numbered.Statement.{statement}
+use Rattle.kip_inspect.proofs.lines.numbered.Tie as tie
 
 places-requires : tie.Need-places-requires
 places-requires c κs = search needs

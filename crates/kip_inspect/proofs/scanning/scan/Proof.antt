@@ -6,13 +6,13 @@ use mathlib.Core.Bool.{false}
 use mathlib.Core.List.{List}
 use lib.ListN.{length}
 use Rattle.wire.specs.ToldLaws.{carried}
 use Rattle.kip.specs.Capture.{NextPromise}
-use Rattle.kip.specs.Judge.{JudgePromise}
-use Rattle.kip.specs.Scan.{scanOf}
-use Rattle.kip.specs.ScanLaws.{Turn, stopped, no-turn, turn-short, turn-full, turn-hands, turn-fits}
+use Rattle.kip_inspect.specs.Judge.{JudgePromise}
+use Rattle.kip_inspect.specs.Scan.{scanOf}
+use Rattle.kip_inspect.specs.ScanLaws.{Turn, stopped, no-turn, turn-short, turn-full, turn-hands, turn-fits}
 use borrow.Author.Needs.{needs}
-use Rattle.kip.proofs.scanning.scan.Statement.{statement}
-use Rattle.kip.proofs.scanning.scan.Tie as tie
+use Rattle.kip_inspect.proofs.scanning.scan.Statement.{statement}
+use Rattle.kip_inspect.proofs.scanning.scan.Tie as tie
 
 abbrev Inv-loop : tie.InvT-loop
 Inv-loop input out₀ at₀ used₀ n₀ full₀ turns₀ out at used n full turns = (full ≡ false) × (length out ≡ length out₀) × (scanOf (length input) input at₀ used₀ n₀ out₀ ≡ scanOf turns input at used n out)

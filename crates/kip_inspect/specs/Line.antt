@@ -9,8 +9,8 @@ use Rattle.wire.specs.Told.{Told}
 use Rattle.wire.specs.Written.{WritePromise}
 use Rattle.wire.specs.declared.refusals.Written.{Written}
 use Rattle.digits.specs.Digits.{decimal, hex4}
-use Rattle.kip.specs.Judge.{told}
-use Rattle.kip.specs.declared.judging.Judged.{Judged}
+use Rattle.kip_inspect.specs.Judge.{told}
+use Rattle.kip_inspect.specs.declared.judging.Judged.{Judged}
 
 -- a text, a number and a line feed
 abbrev pub closing : List ℕ → ℕ → List ℕ

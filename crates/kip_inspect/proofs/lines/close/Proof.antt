@@ -2,10 +2,10 @@
 use native.Mathlib.Omega.{arith}
 use mathlib.Core.Path.{refl}
 use Rattle.digits.specs.DigitLaws.{decimal-stored}
-use Rattle.kip.specs.LineLaws.{closed}
+use Rattle.kip_inspect.specs.LineLaws.{closed}
 use borrow.Author.Needs.{needs}
-use Rattle.kip.proofs.lines.close.Statement.{statement}
-use Rattle.kip.proofs.lines.close.Tie as tie
+use Rattle.kip_inspect.proofs.lines.close.Statement.{statement}
+use Rattle.kip_inspect.proofs.lines.close.Tie as tie
 
 add-to-number : tie.Need-add-to-number
 add-to-number c = search needs

@@ -10,8 +10,8 @@ use Rattle.header.specs.Header.{fields, values, serviceIn, totalIn}
 use Rattle.frame.specs.Frame as Frame
 use Rattle.frame.specs.declared.fields.FrameAnswer.the-variants.{Frame}
 use borrow.Author.Needs.{needs}
-use Rattle.kip.proofs.judging.judge.Statement.{statement}
-use Rattle.kip.proofs.judging.judge.Tie as tie
+use Rattle.kip_inspect.proofs.judging.judge.Statement.{statement}
+use Rattle.kip_inspect.proofs.judging.judge.Tie as tie
 
 parse-requires : tie.Need-parse-requires
 parse-requires c κs = search needs

@@ -4,7 +4,7 @@ ghost use Prim.Native.Nat.{_+_, _≤_};
 ghost use lib.ListN.{length};
 ghost use Rattle.wire.specs.Layout.{CopyPromise};
 ghost use Rattle.digits.specs.Digits.{decimal};
-ghost use Rattle.kip.specs.Line.{closing, LinePromise, EndingPromise, NumberedPromise, CutSizePromise};
+ghost use Rattle.kip_inspect.specs.Line.{closing, LinePromise, EndingPromise, NumberedPromise, CutSizePromise};
 use crate::judging::Judged;
 use wire::Refusal;
 use wire::Written;

@@ -6,11 +6,11 @@ use mathlib.Core.List.{List}
 use Rattle.wire.specs.Layout.{copied}
 use Rattle.wire.specs.Parts.{partOf}
 use Rattle.digits.specs.DigitLaws.{places-most}
-use Rattle.kip.specs.Line.{cutText, cutFront, recordsText}
-use Rattle.kip.specs.LineLaws.{no-room, laid, cut-part, cut-most}
+use Rattle.kip_inspect.specs.Line.{cutText, cutFront, recordsText}
+use Rattle.kip_inspect.specs.LineLaws.{no-room, laid, cut-part, cut-most}
 use borrow.Author.Needs.{needs}
-use Rattle.kip.proofs.lines.ending.Statement.{statement}
-use Rattle.kip.proofs.lines.ending.Tie as tie
+use Rattle.kip_inspect.proofs.lines.ending.Statement.{statement}
+use Rattle.kip_inspect.proofs.lines.ending.Tie as tie
 
 cut-size-requires : tie.Need-cut-size-requires
 cut-size-requires c κs = search needs

@@ -11,14 +11,14 @@ use lib.Dec.{leb}
 use borrow.Author.Tests.{leb-true}
 use Rattle.wire.specs.Layout.{wordAt, copied}
 use Rattle.wire.specs.LayoutLaws.{copied-is, copied-on}
 use Rattle.kip.specs.Capture.{whole, firstIn, restIn, records, left}
 use Rattle.kip.specs.CaptureLaws.{word-drop}
-use Rattle.kip.specs.Judge.{judgeBy01}
-use Rattle.kip.specs.Line.{lineTold}
+use Rattle.kip_inspect.specs.Judge.{judgeBy01}
+use Rattle.kip_inspect.specs.Line.{lineTold}
 use Rattle.kip.specs.Stepping.{Off, is-whole, first-off}
-use Rattle.kip.specs.Scan.{Scan, follows, lineAt, scanOf, scanned, ScanPromise}
-use Rattle.kip.specs.declared.scanning.Spot.{Spot}
-use Rattle.kip.specs.declared.scanning.Scanned.{Scanned}
+use Rattle.kip_inspect.specs.Scan.{Scan, follows, lineAt, scanOf, scanned, ScanPromise}
+use Rattle.kip_inspect.specs.declared.scanning.Spot.{Spot}
+use Rattle.kip_inspect.specs.declared.scanning.Scanned.{Scanned}
 
 -- the lines of records, behind a record with the number n
 abbrev pub linesOf : ℕ → List (List ℕ) → List ℕ

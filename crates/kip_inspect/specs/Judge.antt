@@ -7,7 +7,7 @@ use Rattle.wire.specs.Told.{Told, done, judged}
 use Rattle.wire.specs.Layout.{get}
 use Rattle.header.specs.Header.{fields, serviceIn, totalIn}
 use Rattle.frame.specs.Frame as Frame
-use Rattle.kip.specs.declared.judging.Judged.{Judged}
+use Rattle.kip_inspect.specs.declared.judging.Judged.{Judged}
 
 abbrev pub told : Judged → Told
 told j = record { number = j .number; values = j .service ∷ j .total ∷ []; start = 0; end = 0 }

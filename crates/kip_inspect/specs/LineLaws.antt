@@ -17,8 +17,8 @@ use Rattle.wire.specs.declared.refusals.Refusal.the-variants.{BufferTooSmall}
 use Rattle.wire.specs.declared.refusals.Written.{Written}
 use Rattle.wire.specs.declared.refusals.Written.the-variants.{Bytes, Refused}
 use Rattle.digits.specs.Digits.{decimal}
-use Rattle.kip.specs.Line.{closing, numbered, serviceText, refusedText, lineOf, LinePromise, cutText, cutFront, endingOf, EndingPromise}
-use Rattle.kip.specs.declared.judging.Judged.{Judged}
+use Rattle.kip_inspect.specs.Line.{closing, numbered, serviceText, refusedText, lineOf, LinePromise, cutText, cutFront, endingOf, EndingPromise}
+use Rattle.kip_inspect.specs.declared.judging.Judged.{Judged}
 
 pub closing-length : (text : List ℕ) (n : ℕ) → length (closing text n) ≡ length text + length (decimal n) + 1
 closing-length text n = length-three text (decimal n) (10 ∷ [])

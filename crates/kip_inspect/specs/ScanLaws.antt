@@ -20,15 +20,15 @@ use Rattle.wire.specs.declared.refusals.Refusal.the-variants.{BufferTooSmall}
 use Rattle.wire.specs.declared.refusals.Verdict.the-variants.{Accept, Refuse}
 use Rattle.wire.specs.declared.refusals.Written.{Written}
 use Rattle.wire.specs.declared.refusals.Written.the-variants.{Bytes, Refused}
 use Rattle.kip.specs.Capture.{whole, firstIn, NextPromise}
-use Rattle.kip.specs.Judge.{judgeBy01, JudgePromise}
-use Rattle.kip.specs.Line.{lineTold, lineOf}
+use Rattle.kip_inspect.specs.Judge.{judgeBy01, JudgePromise}
+use Rattle.kip_inspect.specs.Line.{lineTold, lineOf}
 use Rattle.kip.specs.Stepping.{Named, names}
-use Rattle.kip.specs.Scan.{Scan, follows, lineAt, scanOf, PutLinePromise, ScanPromise}
+use Rattle.kip_inspect.specs.Scan.{Scan, follows, lineAt, scanOf, PutLinePromise, ScanPromise}
 use Rattle.kip.specs.declared.capture.Next.the-variants.{Record, Short}
-use Rattle.kip.specs.declared.judging.Judged.{Judged}
-use Rattle.kip.specs.declared.scanning.Spot.{Spot}
-use Rattle.kip.specs.declared.scanning.Scanned.{Scanned}
+use Rattle.kip_inspect.specs.declared.judging.Judged.{Judged}
+use Rattle.kip_inspect.specs.declared.scanning.Spot.{Spot}
+use Rattle.kip_inspect.specs.declared.scanning.Scanned.{Scanned}
 
 -- ---- one turn
 

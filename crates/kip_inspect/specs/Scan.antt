@@ -10,12 +10,12 @@ use Rattle.wire.specs.Layout.{wordAt, copied}
 use Rattle.wire.specs.Written as Written
 use Rattle.wire.specs.declared.refusals.Refusal.the-variants.{BufferTooSmall}
 use Rattle.wire.specs.declared.refusals.Written.{Written}
 use Rattle.kip.specs.Capture.{whole, firstIn}
-use Rattle.kip.specs.Judge.{judgeBy01}
-use Rattle.kip.specs.Line.{lineTold, lineOf}
-use Rattle.kip.specs.declared.judging.Judged.{Judged}
-use Rattle.kip.specs.declared.scanning.Spot.{Spot}
-use Rattle.kip.specs.declared.scanning.Scanned.{Scanned}
+use Rattle.kip_inspect.specs.Judge.{judgeBy01}
+use Rattle.kip_inspect.specs.Line.{lineTold, lineOf}
+use Rattle.kip_inspect.specs.declared.judging.Judged.{Judged}
+use Rattle.kip_inspect.specs.declared.scanning.Spot.{Spot}
+use Rattle.kip_inspect.specs.declared.scanning.Scanned.{Scanned}
 
 -- written from a place on, or not at all where it does not fit (1)
 abbrev pub PutLinePromise : ℕ → Judged → ℕ → List ℕ → Written → List ℕ → Type 0

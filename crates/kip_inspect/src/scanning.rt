@@ -1,10 +1,9 @@
 // The lines of a buffer's whole records, one behind the other.
-ghost use Rattle.kip.specs.Scan.{PutLinePromise, ScanPromise};
-use crate::capture;
-use crate::capture::Next;
+ghost use Rattle.kip_inspect.specs.Scan.{PutLinePromise, ScanPromise};
 use crate::judging;
 use crate::judging::Judged;
 use crate::lines;
+use kip::Next;
 use wire::Refusal;
 use wire::Written;
 
@@ -31,7 +30,7 @@ pub fn scan(input: &[u8], out: &mut [u8], spot: Spot) -> Scanned
     let mut full = false;
     let mut turns = input.len();
     while turns > 0 {
-        match capture::next_record(input, at) {
+        match kip::next_record(input, at) {
             Next::Short => break,
             Next::Record { start, end } => {
                 let next = std::num::wrapping_add_u64(n, 1);

@@ -1,0 +1,9 @@
+-- What `kip_inspect` promises, in reading order: definitions, then laws.
+pub mod Judge
+pub mod JudgeLaws
+pub mod Line
+pub mod LineLaws
+pub mod Scan
+pub mod ScanLaws
+pub mod Printed
+pub mod Inspecting
