@@ -327,6 +327,10 @@ kip-judge s r = judged-refusing (Frame.checks (length s) (get Header.fields 0 s)
 pub kip-line : (n : ℕ) (j : Judged) (out : List ℕ) (r : Written) (after : List ℕ) → Line.LinePromise n j out r after → Refusing (Written.told r) × Leaves (Written.told r) out after
 kip-line n j out = writes-refusing (room (length (Line.lineOf n j)) (length out) ∷ []) (Line.lineOf n j) out
 
+-- kip_inspect::heading
+pub kip-heading : (kip : Bool) (out : List ℕ) (r : Written) (after : List ℕ) → Line.HeadingPromise kip out r after → Refusing (Written.told r) × Leaves (Written.told r) out after
+kip-heading kip out = writes-refusing (room (length (Line.headingOf kip)) (length out) ∷ []) (Line.headingOf kip) out
+
 -- kip_inspect::ending
 pub kip-ending : (n : ℕ) (cut : Bool) (out : List ℕ) (r : Written) (after : List ℕ) → Line.EndingPromise n cut out r after → Refusing (Written.told r) × Leaves (Written.told r) out after
 kip-ending n cut out = writes-refusing (room (length (Line.endingOf n cut)) (length out) ∷ []) (Line.endingOf n cut) out
@@ -527,6 +531,11 @@ host-table-calls = CalledLaws.call-refusing
 -- kip::starts
 -- kip::next_record
 -- kip_inspect::scan
+-- kip_inspect::begin
+-- kip_inspect::written_out
+-- kip_inspect::read_on
+-- kip_inspect::to_front
+-- inspect_io::run
 -- views::LDataFrame::data
 -- image::unpack
 -- digits::places

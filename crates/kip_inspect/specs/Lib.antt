@@ -5,5 +5,9 @@ pub mod Line
 pub mod LineLaws
 pub mod Scan
 pub mod ScanLaws
+pub mod Output
 pub mod Printed
 pub mod Inspecting
+pub mod Turns
+pub mod TurnLaws
+pub mod Reached

@@ -1,4 +1,4 @@
--- "1 0421 11", "2 refused 2", "records 2": the lines of an inspection, each with its line feed. Assumes nothing.
+-- "KIP 1", "1 0421 11", "2 refused 2", "records 2": the lines of an inspection, each with its line feed. Assumes nothing.
 use Prim.Native.Nat.{ℕ}
 use mathlib.Core.Path.{_≡_}
 use mathlib.Core.Bool.{Bool, cond}
@@ -11,6 +11,16 @@ use Rattle.wire.specs.declared.refusals.Written.{Written}
 use Rattle.digits.specs.Digits.{decimal, hex4}
 use Rattle.kip_inspect.specs.Judge.{told}
 use Rattle.kip_inspect.specs.declared.judging.Judged.{Judged}
+
+-- "KIP 1", or "not KIP 1" for another start
+abbrev pub kipText : List ℕ
+kipText = 75 ∷ 73 ∷ 80 ∷ 32 ∷ 49 ∷ 10 ∷ []
+
+abbrev pub headingOf : Bool → List ℕ
+headingOf kip = cond kip kipText (110 ∷ 111 ∷ 116 ∷ 32 ∷ kipText)
+
+abbrev pub HeadingPromise : Bool → List ℕ → Written → List ℕ → Type 0
+HeadingPromise kip out r after = WritePromise (headingOf kip) out r after
 
 -- a text, a number and a line feed
 abbrev pub closing : List ℕ → ℕ → List ℕ

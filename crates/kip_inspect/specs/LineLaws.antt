@@ -17,7 +17,7 @@ use Rattle.wire.specs.declared.refusals.Refusal.the-variants.{BufferTooSmall}
 use Rattle.wire.specs.declared.refusals.Written.{Written}
 use Rattle.wire.specs.declared.refusals.Written.the-variants.{Bytes, Refused}
 use Rattle.digits.specs.Digits.{decimal}
-use Rattle.kip_inspect.specs.Line.{closing, numbered, serviceText, refusedText, lineOf, LinePromise, cutText, cutFront, endingOf, EndingPromise}
+use Rattle.kip_inspect.specs.Line.{headingOf, HeadingPromise, closing, numbered, serviceText, refusedText, lineOf, LinePromise, cutText, cutFront, endingOf, EndingPromise}
 use Rattle.kip_inspect.specs.declared.judging.Judged.{Judged}
 
 pub closing-length : (text : List ℕ) (n : ℕ) → length (closing text n) ≡ length text + length (decimal n) + 1
@@ -63,6 +63,9 @@ framed-line n j e = rw e
 
 pub refused-line : (n : ℕ) (j : Judged) → eqb (j .number) 0 ≡ false → numbered n refusedText (j .number) ≡ lineOf n j
 refused-line n j e = rw e
+
+pub heading-one : (kip : Bool) (out : List ℕ) (r q : Written) (after later : List ℕ) → HeadingPromise kip out r after → HeadingPromise kip out q later → (r ≡ q) × (after ≡ later)
+heading-one kip = write-one (headingOf kip)
 
 pub ending-one : (n : ℕ) (cut : Bool) (out : List ℕ) (r q : Written) (after later : List ℕ)
     → EndingPromise n cut out r after → EndingPromise n cut out q later → (r ≡ q) × (after ≡ later)

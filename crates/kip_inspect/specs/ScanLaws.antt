@@ -7,7 +7,7 @@ use mathlib.Core.List.{List, [], _∷_, _++_, append-assoc, append-nil}
 use lib.ListN.{length, getD, take, drop, length-drop, take-append-drop, drop-of-length-le}
 use lib.Seq.{drop-drop}
 use lib.Dec.{ltb}
-use borrow.Author.Tests.{le-leb, lt-leb, lt-ltb, ltb-true, ltb-false}
+use borrow.Author.Tests.{le-leb, lt-leb, le-ltb, lt-ltb, ltb-true, ltb-false}
 use Rattle.wire.specs.Told.{Told, done, refused, Check, _⇒_, verdict, judged, lent}
 use Rattle.wire.specs.ToldLaws.{same, same-test, holds, let-through, was-accepted, was-refused}
 use Rattle.wire.specs.Parts.{partOf}
@@ -24,39 +24,43 @@ use Rattle.kip.specs.Capture.{whole, firstIn, NextPromise}
 use Rattle.kip_inspect.specs.Judge.{judgeBy01, JudgePromise}
 use Rattle.kip_inspect.specs.Line.{lineTold, lineOf}
 use Rattle.kip.specs.Stepping.{Named, names}
-use Rattle.kip_inspect.specs.Scan.{Scan, follows, lineAt, scanOf, PutLinePromise, ScanPromise}
-use Rattle.kip.specs.declared.capture.Next.the-variants.{Record, Short}
+use Rattle.kip_inspect.specs.Scan.{Scan, most, lineAt, stopped, scanOf, PutLinePromise, ScanPromise}
+use Rattle.kip.specs.declared.capture.Next.the-variants.{Record}
+use Rattle.kip.specs.declared.capture.Next.the-variants as Next
 use Rattle.kip_inspect.specs.declared.judging.Judged.{Judged}
 use Rattle.kip_inspect.specs.declared.scanning.Spot.{Spot}
 use Rattle.kip_inspect.specs.declared.scanning.Scanned.{Scanned}
+use Rattle.kip_inspect.specs.declared.scanning.Stop.the-variants.{Short, Full, Last}
 
 -- ---- one turn
 
-abbrev pub stopped : ℕ → ℕ → ℕ → List ℕ → Bool → Scan
-stopped at used n out full = record { at = at; used = used; n = n; out = out; full = full }
-
-pub no-turn : (s : List ℕ) (at used n : ℕ) (out : List ℕ) → scanOf 0 s at used n out ≡ stopped at used n out false
+pub no-turn : (s : List ℕ) (at used n : ℕ) (out : List ℕ) → scanOf 0 s at used n out ≡ stopped at used n out Short
 unfolding scanOf
 no-turn s at used n out = refl
 
-pub short : (k : ℕ) (s : List ℕ) (at used n : ℕ) (out : List ℕ) → whole (drop at s) ≡ false → scanOf k s at used n out ≡ stopped at used n out false
+pub short : (k : ℕ) (s : List ℕ) (at used n : ℕ) (out : List ℕ) → whole (drop at s) ≡ false → scanOf k s at used n out ≡ stopped at used n out Short
 unfolding scanOf
 short zero s at used n out e = refl
 short (suc k) s at used n out e = rw e
 
-pub no-room : (k : ℕ) (s : List ℕ) (at used n : ℕ) (out : List ℕ) → 1 ≤ k → whole (drop at s) ≡ true → length out < used + length (lineAt s at n)
-    → scanOf k s at used n out ≡ stopped at used n out true
+pub last : (k : ℕ) (s : List ℕ) (at used n : ℕ) (out : List ℕ) → 1 ≤ k → whole (drop at s) ≡ true → most ≤ n → scanOf k s at used n out ≡ stopped at used n out Last
 unfolding scanOf
-no-room zero s at used n out h e f = absurd (omega arith)
-no-room (suc k) s at used n out h e f = rw (e, lt-leb (used + length (lineAt s at n)) (length out) f)
+last zero s at used n out h e f = absurd (omega arith)
+last (suc k) s at used n out h e f = rw (e, le-ltb n most f)
 
-pub hands : (k : ℕ) (s : List ℕ) (at used n : ℕ) (out : List ℕ) → 1 ≤ k → whole (drop at s) ≡ true → used + length (lineAt s at n) ≤ length out
-    → scanOf k s at used n out ≡ scanOf (k - 1) s (at + 2 + wordAt s at) (used + length (lineAt s at n)) (follows n) (copied (lineAt s at n) out used)
+pub no-room : (k : ℕ) (s : List ℕ) (at used n : ℕ) (out : List ℕ) → 1 ≤ k → whole (drop at s) ≡ true → n < most → length out < used + length (lineAt s at n)
+    → scanOf k s at used n out ≡ stopped at used n out Full
 unfolding scanOf
-hands zero s at used n out h e f = absurd (omega arith)
-hands (suc k) s at used n out h e f =
+no-room zero s at used n out h e m f = absurd (omega arith)
+no-room (suc k) s at used n out h e m f = rw (e, lt-ltb n most m, lt-leb (used + length (lineAt s at n)) (length out) f)
+
+pub hands : (k : ℕ) (s : List ℕ) (at used n : ℕ) (out : List ℕ) → 1 ≤ k → whole (drop at s) ≡ true → n < most → used + length (lineAt s at n) ≤ length out
+    → scanOf k s at used n out ≡ scanOf (k - 1) s (at + 2 + wordAt s at) (used + length (lineAt s at n)) (n + 1) (copied (lineAt s at n) out used)
+unfolding scanOf
+hands zero s at used n out h e m f = absurd (omega arith)
+hands (suc k) s at used n out h e m f =
     let q : suc k - 1 ≡ k = omega arith in
-    rw (q, e, le-leb (used + length (lineAt s at n)) (length out) f)
+    rw (q, e, lt-ltb n most m, le-leb (used + length (lineAt s at n)) (length out) f)
 
 -- ---- a line behind what stands
 
@@ -121,12 +125,16 @@ was-full w out at e p = go (ltb (length out) (at + length w)) refl
         let q : Refuse e ≡ Accept = sym (was-refused cs (done (length w ∷ [])) 1 e refl p) ∙ ap (λ (b : Bool). verdict (b ⇒ BufferTooSmall ∷ [])) f in
         absurd (let z : _≡_ {A = ℕ} 0 1 = cc in omega arith)
 
-pub turn-short : (k : ℕ) (s : List ℕ) (at used n : ℕ) (out : List ℕ) → NextPromise s at Short → scanOf k s at used n out ≡ stopped at used n out false
+pub turn-short : (k : ℕ) (s : List ℕ) (at used n : ℕ) (out : List ℕ) → NextPromise s at Next.Short → scanOf k s at used n out ≡ stopped at used n out Short
 turn-short k s at used n out p = short k s at used n out (go (whole (drop at s)) refl p)
   where
-    go : (b : Bool) → whole (drop at s) ≡ b → Short ≡ cond b (Record (at + 2) (at + 2 + wordAt s at)) Short → whole (drop at s) ≡ false
+    go : (b : Bool) → whole (drop at s) ≡ b → Next.Short ≡ cond b (Record (at + 2) (at + 2 + wordAt s at)) Next.Short → whole (drop at s) ≡ false
     go true e q = absurd (let z : _≡_ {A = ℕ} 0 1 = cc in omega arith)
     go false e q = e
+
+-- a turn that has a record which no number is left for
+pub turn-last : (k : ℕ) (s : List ℕ) (at used n : ℕ) (out : List ℕ) (start end : ℕ) → 1 ≤ k → NextPromise s at (Record start end) → most ≤ n → scanOf k s at used n out ≡ stopped at used n out Last
+turn-last k s at used n out start end h p m = last k s at used n out h (names s at start end p .is-there) m
 
 -- a turn that has a record: what was named, told and counted of it, and what putting its line answered
 pub record Turn : Type 0 where
@@ -143,9 +151,10 @@ pub record Turn : Type 0 where
   pub answer : Written
   pub after : List ℕ
   pub some : 1 ≤ turns
+  pub counts : n < most
   pub named : NextPromise input at (Record start end)
   pub told-so : JudgePromise (partOf input start end) told-of
-  pub counted : next ≡ follows n
+  pub counted : next ≡ n + 1
   pub put : PutLinePromise next told-of used out answer after
 
 module _ (t : Turn) where
@@ -155,7 +164,7 @@ module _ (t : Turn) where
   ends : t .end ≡ t .at + 2 + wordAt (t .input) (t .at)
   ends = go (whole (drop (t .at) (t .input))) (there .is-there) (t .named)
     where
-      go : (b : Bool) → b ≡ true → Record (t .start) (t .end) ≡ cond b (Record (t .at + 2) (t .at + 2 + wordAt (t .input) (t .at))) Short → t .end ≡ t .at + 2 + wordAt (t .input) (t .at)
+      go : (b : Bool) → b ≡ true → Record (t .start) (t .end) ≡ cond b (Record (t .at + 2) (t .at + 2 + wordAt (t .input) (t .at))) Next.Short → t .end ≡ t .at + 2 + wordAt (t .input) (t .at)
       go true e q = cc
       go false e q = absurd (let z : _≡_ {A = ℕ} 0 1 = cc in omega arith)
 
@@ -168,12 +177,12 @@ module _ (t : Turn) where
       ap (lineTold (t .next)) (t .told-so ∙ ap judgeBy01 (there .datagram))
       ∙ ap (λ (m : ℕ). lineTold m (judgeBy01 (firstIn (drop (t .at) (t .input))))) (t .counted)
 
-  pub turn-full : (e : Refusal) → t .answer ≡ Refused e → scanOf (t .turns) (t .input) (t .at) (t .used) (t .n) (t .out) ≡ stopped (t .at) (t .used) (t .n) (t .after) true
+  pub turn-full : (e : Refusal) → t .answer ≡ Refused e → scanOf (t .turns) (t .input) (t .at) (t .used) (t .n) (t .out) ≡ stopped (t .at) (t .used) (t .n) (t .after) Full
   turn-full e refused =
       let none = was-full line (t .out) (t .used) e (ap Written.told (sym refused) ∙ t .put .0) in
       let kept : t .after ≡ t .out = t .put .1 ∙ simp (lt-leb (t .used + length line) (length (t .out)) none) in
-      no-room (t .turns) (t .input) (t .at) (t .used) (t .n) (t .out) (t .some) (there .is-there) (omega (arith, ap length the-line))
-      ∙ ap (λ (l : List ℕ). stopped (t .at) (t .used) (t .n) l true) (sym kept)
+      no-room (t .turns) (t .input) (t .at) (t .used) (t .n) (t .out) (t .some) (there .is-there) (t .counts) (omega (arith, ap length the-line))
+      ∙ ap (λ (l : List ℕ). stopped (t .at) (t .used) (t .n) l Full) (sym kept)
 
   module _ (size : ℕ) (written : t .answer ≡ Bytes size) where
     as-put : Put line (t .out) (t .used) size
@@ -187,9 +196,9 @@ module _ (t : Turn) where
         let w : List ℕ = lineAt (t .input) (t .at) (t .n) in
         let k : ℕ = t .turns - 1 in
         let long : length w ≡ size = ap length (sym the-line) ∙ sym (as-put .size) in
-        hands (t .turns) (t .input) (t .at) (t .used) (t .n) (t .out) (t .some) (there .is-there) (omega (arith, as-put .fits, as-put .size))
-        ∙ ap (λ (e : ℕ). scanOf k (t .input) e (t .used + length w) (follows (t .n)) (copied w (t .out) (t .used))) (sym ends)
-        ∙ ap (λ (m : ℕ). scanOf k (t .input) (t .end) (t .used + m) (follows (t .n)) (copied w (t .out) (t .used))) long
+        hands (t .turns) (t .input) (t .at) (t .used) (t .n) (t .out) (t .some) (there .is-there) (t .counts) (omega (arith, as-put .fits, as-put .size))
+        ∙ ap (λ (e : ℕ). scanOf k (t .input) e (t .used + length w) (t .n + 1) (copied w (t .out) (t .used))) (sym ends)
+        ∙ ap (λ (m : ℕ). scanOf k (t .input) (t .end) (t .used + m) (t .n + 1) (copied w (t .out) (t .used))) long
         ∙ ap (λ (m : ℕ). scanOf k (t .input) (t .end) (t .used + size) m (copied w (t .out) (t .used))) (sym (t .counted))
         ∙ ap (scanOf k (t .input) (t .end) (t .used + size) (t .next)) (ap (λ (l : List ℕ). copied l (t .out) (t .used)) (sym the-line) ∙ sym (t .put .1))
 
@@ -198,4 +207,4 @@ module _ (t : Turn) where
 pub scan-one : (s out : List ℕ) (spot : Spot) (r q : Scanned) (after later : List ℕ) → ScanPromise s out spot r after → ScanPromise s out spot q later → (r ≡ q) × (after ≡ later)
 scan-one s out spot r q after later a b =
     let e = same a b in
-    (ap (λ (x : Scan). record { spot = record { at = x .at; used = x .used; n = x .n }; full = x .full }) e, ap (λ (x : Scan). x .out) e)
+    (ap (λ (x : Scan). record { spot = record { at = x .at; used = x .used; n = x .n }; stop = x .stop }) e, ap (λ (x : Scan). x .out) e)

@@ -1,13 +1,23 @@
-// The line of a record.
+// The lines of an inspection.
 ghost use mathlib.Core.Path.{_≡_};
 ghost use Prim.Native.Nat.{_+_, _≤_};
 ghost use lib.ListN.{length};
 ghost use Rattle.wire.specs.Layout.{CopyPromise};
 ghost use Rattle.digits.specs.Digits.{decimal};
-ghost use Rattle.kip_inspect.specs.Line.{closing, LinePromise, EndingPromise, NumberedPromise, CutSizePromise};
+ghost use Rattle.kip_inspect.specs.Line.{HeadingPromise, closing, LinePromise, EndingPromise, NumberedPromise, CutSizePromise};
 use crate::judging::Judged;
 use wire::Refusal;
 use wire::Written;
+
+// The first line: whether the bytes start as a capture does.
+pub fn heading(kip: bool, out: &mut [u8]) -> Written
+    ensures { λ r. ⌜ HeadingPromise kip (now (out .entry)) r (now (out .exit)) ⌝ }
+{
+    if kip {
+        return wire::write(b"KIP 1\n", out);
+    }
+    wire::write(b"not KIP 1\n", out)
+}
 
 // The record's number in the capture, then service and total length, or the refusal.
 pub fn line(n: u64, judged: Judged, out: &mut [u8]) -> Written

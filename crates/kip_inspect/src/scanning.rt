@@ -14,10 +14,16 @@ pub struct Spot {
     pub n: u64,
 }
 
-// Where a scan stopped: for want of a whole record, or of room for a line.
+// Why a scan stopped: no whole record is left, a line has no room, or the last record has the largest number.
+pub enum Stop {
+    Short,
+    Full,
+    Last,
+}
+
 pub struct Scanned {
     pub spot: Spot,
-    pub full: bool,
+    pub stop: Stop,
 }
 
 // Hands on every whole record while its line fits. A record takes two bytes at least, so that the count of turns ends no scan.
@@ -27,32 +33,33 @@ pub fn scan(input: &[u8], out: &mut [u8], spot: Spot) -> Scanned
     let mut at = spot.at;
     let mut used = spot.used;
     let mut n = spot.n;
-    let mut full = false;
     let mut turns = input.len();
-    while turns > 0 {
+    let stop = loop {
+        if turns == 0 {
+            break Stop::Short;
+        }
         match kip::next_record(input, at) {
-            Next::Short => break,
+            Next::Short => break Stop::Short,
             Next::Record { start, end } => {
-                let next = std::num::wrapping_add_u64(n, 1);
+                if u64::MAX <= n {
+                    break Stop::Last;
+                }
                 let judged = judging::judge(wire::part(input, start, end));
-                match put_line(next, judged, out, used) {
-                    Written::Refused(_) => {
-                        full = true;
-                        break;
-                    }
+                match put_line(n + 1, judged, out, used) {
+                    Written::Refused(_) => break Stop::Full,
                     Written::Bytes(size) => {
                         used += size;
                         at = end;
-                        n = next;
+                        n += 1;
                     }
                 }
             }
         }
         turns -= 1;
-    }
+    };
     Scanned {
         spot: Spot { at, used, n },
-        full,
+        stop,
     }
 }
 

@@ -3,17 +3,14 @@ use Prim.Native.Nat.{_-_}
 use mathlib.Core.Path.{_≡_}
 use lib.ListN.{length}
 use borrow.Author.Needs.{needs}
-use Rattle.inspect.proofs.arguments.Statement.{statement}
-use Rattle.inspect.proofs.arguments.Tie as tie
+use Rattle.inspect_io.proofs.arguments.Statement.{statement}
+use Rattle.inspect_io.proofs.arguments.Tie as tie
 
 abbrev Inv-loop : tie.InvT-loop
-Inv-loop input₀ out₀ count i₀ input out i = (length input ≡ length input₀) × (length out ≡ length out₀)
+Inv-loop count input₀ out₀ i₀ input out i = (length input ≡ length input₀) × (length out ≡ length out₀)
 
 abbrev μ-loop : tie.MeasureT-loop
-μ-loop input₀ out₀ count i₀ input out i = count - i
-
-arg-count-requires : tie.Need-arg-count-requires Inv-loop μ-loop
-arg-count-requires c κs = search needs
+μ-loop count input₀ out₀ i₀ input out i = count - i
 
 loop-holds : tie.Need-loop-holds Inv-loop μ-loop
 loop-holds c = search needs
@@ -39,13 +36,21 @@ same-length-2 c = search needs
 returns : tie.Need-returns Inv-loop μ-loop
 returns c = search needs
 
+same-length-3 : tie.Need-same-length-3 Inv-loop μ-loop
+same-length-3 c = search needs
+
+same-length-4 : tie.Need-same-length-4 Inv-loop μ-loop
+same-length-4 c = search needs
+
+returns-2 : tie.Need-returns-2 Inv-loop μ-loop
+returns-2 c = search needs
+
 pub arguments-spec : {M : Type 1} → statement M
 arguments-spec =
     tie.close
     (tie.spec
     Inv-loop
     μ-loop
-    arg-count-requires
     loop-holds
     argument-requires
     add-i
@@ -53,4 +58,7 @@ arguments-spec =
     loop-again
     same-length
     same-length-2
-    returns)
+    returns
+    same-length-3
+    same-length-4
+    returns-2)
