@@ -4,7 +4,8 @@ use mathlib.Core.Path.{_≡_, refl}
 use mathlib.Core.Bool.{Bool, true, false}
 use mathlib.Core.List.{List, [], _∷_, _++_}
 use lib.ListN.{length, take, drop, replicate}
-use Rattle.wire.specs.declared.refusals.Written.the-variants.{Bytes}
+use Rattle.wire.specs.LayoutLaws.{Bytes}
+use Rattle.wire.specs.declared.refusals.Written.the-variants as Written
 use Rattle.kip.specs.Capture.{startsBy01, whole, recordsOf, leftOf, records, left, NextPromise}
 use Rattle.kip.specs.CaptureLaws as CaptureLaws
 use Rattle.kip.specs.Stepping.{Move, Named, HandedOn, begun, ran}
@@ -34,6 +35,10 @@ hands-on = Stepping.hands-on
 -- and the part that `next_record` names is the record that such a move hands on
 pub names : (s : List ℕ) (at start end : ℕ) → NextPromise s at (Record start end) → Named s at start end
 names = Stepping.names
+
+-- where no whole record is left, the buffer of 131,072 bytes has room, so that a read which brings nothing is the capture's end
+pub has-room : (s : List ℕ) → Bytes s → whole s ≡ false → length s < 65537
+has-room = Stepping.none-fits
 
 -- what a scan of a buffer prints are the lines of the records that it hands on, one behind the other in the output; the others start where it stopped
 pub scan-prints : (s out : List ℕ) (spot : Spot) (r : Scanned) (after : List ℕ) → spot .used ≤ length out → ScanPromise s out spot r after → Printed s (spot .at) (spot .used) (spot .n) out (scanned r after)
@@ -69,7 +74,7 @@ pub scan-steps : (i : Inspecting) (r : Scanned) (after : List ℕ) → ScanPromi
     → stepped i ScanOn ≡ record { buffer = i .buffer; ahead = i .ahead; spot = r .spot; out = after; written = i .written }
 scan-steps = Inspects.scan-steps
 
-pub ending-writes : (n : ℕ) (cut : Bool) (out : List ℕ) (k : ℕ) (after : List ℕ) → EndingPromise n cut out (Bytes k) after → take k after ≡ endingOf n cut
+pub ending-writes : (n : ℕ) (cut : Bool) (out : List ℕ) (k : ℕ) (after : List ℕ) → EndingPromise n cut out (Written.Bytes k) after → take k after ≡ endingOf n cut
 ending-writes = Inspects.ending-writes
 
 -- ---- the program's buffers

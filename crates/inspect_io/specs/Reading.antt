@@ -39,3 +39,14 @@ pub record ReadMore (input : List ℕ) (p : Progress) (after : List ℕ) (r : Tu
 -- before the first record nothing is handed on
 abbrev pub StartPromise : List ℕ → Progress → Type 0
 StartPromise input p = (p .spot ≡ first) × (p .have ≤ length input)
+
+-- where it goes on, the start's five bytes are there
+abbrev pub there : Went → ℕ → Type 0
+there On have = 5 ≤ have
+there Ended have = Unit {0}
+there Unread have = Unit {0}
+there Unwritten have = Unit {0}
+there TooLong have = Unit {0}
+
+abbrev pub ReadStartPromise : List ℕ → Turned → Type 0
+ReadStartPromise input r = StartPromise input (r .progress) × there (r .went) (r .progress .have)

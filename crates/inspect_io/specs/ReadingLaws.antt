@@ -2,14 +2,14 @@
 use Prim.Native.Nat.{ℕ, _+_, _<_, _≤_}
 use native.Mathlib.Omega.{arith}
 use mathlib.Core.Path.{_≡_, sym, ap, _∙_}
-use mathlib.Core.Bool.{false}
+use mathlib.Core.Bool.{true, false}
 use mathlib.Core.List.{List, _++_}
 use lib.ListN.{length, take, length-append}
 use lib.Seq.{take-at, length-take-le}
 use borrow.Author.Tests.{le-leb}
 use Rattle.kip_inspect.specs.Turns.{first, ReadOnPromise}
 use Rattle.kip_inspect.specs.declared.turns.Progress.{Progress}
-use Rattle.inspect_io.specs.Reading.{stopsAt, came, ReadMore, StartPromise}
+use Rattle.inspect_io.specs.Reading.{stopsAt, came, ReadMore, StartPromise, there}
 use Rattle.inspect_io.specs.declared.reading.Went.{Went}
 use Rattle.inspect_io.specs.declared.reading.Went.the-variants.{On, Ended, Unread, Unwritten, TooLong}
 use Rattle.inspect_io.specs.declared.reading.Turned.{Turned}
@@ -63,3 +63,19 @@ module _ (input : List ℕ) (p : Progress) (after : List ℕ) (r : Turned) (q : 
       some Unread c e = absurd (let z : _≡_ {A = ℕ} 0 1 = cc in omega arith)
       some Unwritten c e = absurd c
       some TooLong c e = absurd c
+
+-- ---- the start is there, or it does not go on
+
+pub not-on : (went : Went) (have : ℕ) → stopsAt went ≡ true → there went have
+not-on On have e = absurd (let z : _≡_ {A = ℕ} 0 1 = cc in omega arith)
+not-on Ended have e = tt
+not-on Unread have e = tt
+not-on Unwritten have e = tt
+not-on TooLong have e = tt
+
+pub five-there : (went : Went) (have : ℕ) → 5 ≤ have → there went have
+five-there On have h = h
+five-there Ended have h = tt
+five-there Unread have h = tt
+five-there Unwritten have h = tt
+five-there TooLong have h = tt

@@ -1,7 +1,7 @@
 // Reading, and how it goes on from there.
 ghost use Prim.Native.Nat.{_≤_};
 ghost use lib.ListN.{length};
-ghost use Rattle.inspect_io.specs.Reading.{StopsPromise, ReadMore, StartPromise};
+ghost use Rattle.inspect_io.specs.Reading.{StopsPromise, ReadMore, ReadStartPromise};
 use kip_inspect::Progress;
 
 // The capture goes on; it ended; a read failed, which is not its end; a write failed; or it has more records than are counted.
@@ -32,7 +32,7 @@ pub(crate) fn stops(went: Went) -> bool
 
 // Reads until the start is there, or nothing more comes.
 pub(crate) fn read_start(fd: i32, input: &mut [u8]) -> Turned
-    ensures { λ r. ⌜ StartPromise (now (input .exit)) (r .progress) ⌝ }
+    ensures { λ r. ⌜ ReadStartPromise (now (input .exit)) r ⌝ }
 {
     let mut progress = kip_inspect::begin();
     let turned = loop {

@@ -6,7 +6,7 @@ use lib.ListN.{length}
 use borrow.Author.Needs.{needs}
 use Rattle.kip_inspect.specs.Turns.{first}
 use Rattle.kip_inspect.specs.declared.turns.Progress.{Progress}
-use Rattle.inspect_io.specs.ReadingLaws.{start-kept, grows}
+use Rattle.inspect_io.specs.ReadingLaws.{start-kept, grows, not-on, five-there}
 use Rattle.inspect_io.proofs.reading.read_start.Statement.{statement}
 use Rattle.inspect_io.proofs.reading.read_start.Tie as tie
 
@@ -51,7 +51,7 @@ returns : tie.Need-returns Inv-loop μ-loop
 returns c =
     let l = c .before .before .before .before .before .before .loop in
     let more = c .before .before .before .before .read-more in
-    start-kept (l .input) (l .progress) (more .last .1 .0) (more .result) (more .ensures) (l .inv .1)
+    (start-kept (l .input) (l .progress) (more .last .1 .0) (more .result) (more .ensures) (l .inv .1), not-on (more .result .went) (more .result .progress .have) (sym (c .before .stops .ensures) ∙ c .if1 .taken))
 
 same-length-2 : tie.Need-same-length-2 Inv-loop μ-loop
 same-length-2 c = search needs
@@ -60,7 +60,7 @@ returns-2 : tie.Need-returns-2 Inv-loop μ-loop
 returns-2 c =
     let l = c .before .before .before .before .before .before .before .before .before .loop in
     let more = c .before .before .before .before .before .before .before .read-more in
-    start-kept (l .input) (l .progress) (more .last .1 .0) (more .result) (more .ensures) (l .inv .1)
+    (start-kept (l .input) (l .progress) (more .last .1 .0) (more .result) (more .ensures) (l .inv .1), five-there (more .result .went) (more .result .progress .have) (omega arith))
 
 pub read-start-spec : {M : Type 1} → statement M
 read-start-spec =
