@@ -1,12 +1,13 @@
 -- The inspection of a capture: stepping through it hands on its records, wherever its buffer is refilled, what the program's turns write is what 01 says, its calls are such turns, and 01's example, by computation.
 use Prim.Native.Nat.{ℕ, _+_, _≤_, _<_}
+use native.Mathlib.Omega.{arith}
 use mathlib.Core.Path.{_≡_, refl}
 use mathlib.Core.Bool.{Bool, true, false}
 use mathlib.Core.List.{List, [], _∷_, _++_}
 use lib.ListN.{length, take, drop, replicate}
 use Rattle.wire.specs.LayoutLaws.{Bytes}
 use Rattle.wire.specs.declared.refusals.Written.the-variants as Written
-use Rattle.kip.specs.Capture.{startsBy01, whole, recordsOf, leftOf, records, left, NextPromise}
+use Rattle.kip.specs.Capture.{startsBy01, whole, recordsOf, leftOf, NextPromise}
 use Rattle.kip.specs.CaptureLaws as CaptureLaws
 use Rattle.kip.specs.Stepping.{Move, Named, HandedOn, begun, ran}
 use Rattle.kip.specs.Stepping as Stepping
@@ -138,7 +139,7 @@ pub others : Others
 unfolding recordsOf leftOf digitsOf
 others = record { nothing = refl; four-bytes = refl; version-2 = refl; lone-byte = refl }
 
--- 01's two records and a lone byte, with an output of twelve bytes: the start, then to the middle of the first record, then to that of the second, whose line has no room behind the first one's until that is written out
+-- 01's two records and a lone byte
 abbrev second : List ℕ
 second = 0x06 ∷ 0x10 ∷ 0x04 ∷ 0x20 ∷ 0x00 ∷ 0x05 ∷ []
 
@@ -146,6 +147,14 @@ abbrev unfinished : List ℕ
 unfinished =
     0x4B ∷ 0x49 ∷ 0x50 ∷ 0x00 ∷ 0x01 ∷ 0x00 ∷ 0x0B ∷ 0x06 ∷ 0x10 ∷ 0x04 ∷ 0x21 ∷ 0x00 ∷ 0x0B ∷ 0x04 ∷ 0x15 ∷ 0x07 ∷ 0x00 ∷ 0x00 ∷ 0x00 ∷ 0x06 ∷ second ++ 0x00 ∷ []
 
+-- the program stands at such a state where these 27 bytes are read into a buffer of 30
+abbrev unfinished-read : Progress
+unfinished-read = record { spot = first; have = 27 }
+
+pub stands : Reached (unfinished ++ 0x00 ∷ 0x00 ∷ 0x00 ∷ []) [] unfinished-read
+stands = begins (unfinished ++ 0x00 ∷ 0x00 ∷ 0x00 ∷ []) [] unfinished-read refl (omega arith) refl
+
+-- with an output of twelve bytes: the start is read, then to the middle of the first record, then to that of the second, whose line has no room behind the first one's until that is written out
 abbrev to-no-room : List Step
 to-no-room = ReadOn 5 ∷ ScanOn ∷ ReadOn 15 ∷ ScanOn ∷ ToFront ∷ ReadOn 9 ∷ ScanOn ∷ []
 

@@ -22,6 +22,7 @@ pub(crate) fn capture(fd: i32, name: &[u8], input: &mut [u8], out: &mut [u8]) ->
     inspect(fd, name, input, out, progress)
 }
 
+// The start's line and, where it is one, those of the records.
 fn inspect(fd: i32, name: &[u8], input: &mut [u8], out: &mut [u8], progress: Progress) -> bool
     requires { ⌜ StartPromise (now input) progress ⌝ }
 {
@@ -56,11 +57,11 @@ fn finish(name: &[u8], out: &mut [u8], last: Turned) -> bool {
             printed(wire::part(out, 0, spot.used))
         }
         Went::Unwritten => unwritten(),
-        Went::On => too_long(wire::part(out, 0, spot.used)),
-        Went::TooLong => too_long(wire::part(out, 0, spot.used)),
+        _ => too_long(wire::part(out, 0, spot.used)),
     }
 }
 
+// Whether a record is cut, and how many there were.
 fn last_lines(progress: Progress, out: &mut [u8]) -> Written
     ensures { λ r. ⌜ LastPromise progress (now (out .entry)) r (now (out .exit)) ⌝ }
 {
@@ -73,6 +74,7 @@ fn too_long(lines: &[u8]) -> bool {
     printed(lines)
 }
 
+// How much of the output a line takes: nothing where it has no room.
 fn size(written: Written) -> usize {
     match written {
         Written::Bytes(k) => k,

@@ -14,7 +14,7 @@ use Rattle.wire.specs.declared.refusals.Written.the-variants.{Bytes}
 use Rattle.kip.specs.Capture.{startsBy01, whole, records, left}
 use Rattle.kip.specs.CaptureLaws.{starts-five, starts-more}
 use Rattle.kip_inspect.specs.Line.{headingOf, endingOf, EndingPromise}
-use Rattle.kip_inspect.specs.Output.{lines, inspectedBy01, printedBy01}
+use Rattle.kip_inspect.specs.Output.{lines, printedBy01}
 use Rattle.kip.specs.Stepping.{Reading, Fill, Kept, keeps, kept-ends}
 use Rattle.kip_inspect.specs.Scan.{Scan, scanOf, ScanPromise}
 use Rattle.kip_inspect.specs.Printed.{lines-on, scan-prints, scan-ends, stands, room-left}

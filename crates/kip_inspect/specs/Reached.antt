@@ -2,7 +2,7 @@
 use Prim.Native.Nat.{ℕ, _+_, _-_, _≤_}
 use native.Mathlib.Omega.{arith}
 use mathlib.Core.Path.{_≡_, refl, sym, ap, subst, _∙_}
-use mathlib.Core.Bool.{Bool, true, false}
+use mathlib.Core.Bool.{true, false}
 use mathlib.Core.List.{List, [], _∷_, _++_, append-assoc, append-nil}
 use lib.ListN.{length, take, drop, length-append, length-drop}
 use lib.Seq.{take-add, take-all, take-at, drop-at, take-append-le, length-take-le}
@@ -10,7 +10,6 @@ use lib.Dec.{ltb}
 use borrow.Author.Tests.{le-leb}
 use Rattle.wire.specs.Parts.{partOf}
 use Rattle.wire.specs.PartLaws.{part-is}
-use Rattle.wire.specs.Written.{onto}
 use Rattle.kip.specs.Capture.{startsBy01, whole}
 use Rattle.kip_inspect.specs.Line.{headingOf, endingOf}
 use Rattle.kip_inspect.specs.Scan.{ScanPromise}

@@ -4,9 +4,9 @@ use native.Mathlib.Omega.{arith}
 use native.Mathlib.Nat.{zero-add}
 use mathlib.Core.Path.{_≡_, refl, sym, ap, _∙_}
 use mathlib.Core.Bool.{Bool, true, false, cond}
-use mathlib.Core.List.{List, [], _∷_, _++_}
-use lib.ListN.{length, getD, take, drop, length-drop, length-append}
-use lib.Seq.{paste, take-add, drop-at, take-at, getD-drop, getD-append-add, length-take-le}
+use mathlib.Core.List.{List, [], _++_}
+use lib.ListN.{length, getD, take, drop, length-drop}
+use lib.Seq.{paste, take-add, drop-at, getD-drop, getD-append-add, length-take-le}
 use lib.Dec.{ltb}
 use borrow.Author.Tests.{le-leb, lt-leb, lt-ltb}
 use Rattle.wire.specs.Written.{onto}

@@ -7,7 +7,7 @@ use lib.ListN.{length}
 use Rattle.wire.specs.ToldLaws.{carried}
 use Rattle.kip.specs.Capture.{NextPromise}
 use Rattle.kip_inspect.specs.Judge.{JudgePromise}
-use Rattle.kip_inspect.specs.Scan.{most, scanOf}
+use Rattle.kip_inspect.specs.Scan.{scanOf}
 use Rattle.kip_inspect.specs.ScanLaws.{Turn, no-turn, turn-short, turn-last, turn-full, turn-hands, turn-fits}
 use borrow.Author.Needs.{needs}
 use Rattle.kip_inspect.proofs.scanning.scan.Statement.{statement}
