@@ -65,9 +65,9 @@ use Rattle.tunnelling.specs.declared.ack.TunnelingAck.{TunnelingAck}
 use Rattle.tunnelling.specs.declared.ack.TunnelingAckAnswer.{TunnelingAckAnswer}
 use Rattle.tunnel_model.specs.Calls.{Call, outOf}
 use mathlib.Core.Bool.{Bool}
-use Rattle.kip.specs.Judge as Judge
-use Rattle.kip.specs.Line as Line
-use Rattle.kip.specs.declared.judging.Judged.{Judged}
+use Rattle.kip_inspect.specs.Judge as Judge
+use Rattle.kip_inspect.specs.Line as Line
+use Rattle.kip_inspect.specs.declared.judging.Judged.{Judged}
 use denote.Ref.{now}
 use Rattle.datagram.specs.Heard as Heard
 use Rattle.datagram.specs.HeardLaws as HeardLaws
@@ -319,15 +319,19 @@ tunnel-acknowledged = RuleLaws.acknowledged-done
 
 -- ---- kip
 
--- kip::judge
+-- kip_inspect::judge
 pub kip-judge : (s : List ℕ) (r : Judged) → Judge.JudgePromise s r → Refusing (Judge.told r)
 kip-judge s r = judged-refusing (Frame.checks (length s) (get Header.fields 0 s)) (done (Header.serviceIn (get Header.fields 0 s) ∷ Header.totalIn (get Header.fields 0 s) ∷ [])) (Judge.told r) refl
 
--- kip::line
+-- kip_inspect::line
 pub kip-line : (n : ℕ) (j : Judged) (out : List ℕ) (r : Written) (after : List ℕ) → Line.LinePromise n j out r after → Refusing (Written.told r) × Leaves (Written.told r) out after
 kip-line n j out = writes-refusing (room (length (Line.lineOf n j)) (length out) ∷ []) (Line.lineOf n j) out
 
--- kip::ending
+-- kip_inspect::heading
+pub kip-heading : (kip : Bool) (out : List ℕ) (r : Written) (after : List ℕ) → Line.HeadingPromise kip out r after → Refusing (Written.told r) × Leaves (Written.told r) out after
+kip-heading kip out = writes-refusing (room (length (Line.headingOf kip)) (length out) ∷ []) (Line.headingOf kip) out
+
+-- kip_inspect::ending
 pub kip-ending : (n : ℕ) (cut : Bool) (out : List ℕ) (r : Written) (after : List ℕ) → Line.EndingPromise n cut out r after → Refusing (Written.told r) × Leaves (Written.told r) out after
 kip-ending n cut out = writes-refusing (room (length (Line.endingOf n cut)) (length out) ∷ []) (Line.endingOf n cut) out
 
@@ -539,7 +543,12 @@ host-table-calls = CalledLaws.call-refusing
 -- table::Table::empty
 -- kip::starts
 -- kip::next_record
--- kip::scan
+-- kip_inspect::scan
+-- kip_inspect::begin
+-- kip_inspect::written_out
+-- kip_inspect::read_on
+-- kip_inspect::to_front
+-- inspect_io::run
 -- views::LDataFrame::data
 -- image::unpack
 -- digits::places

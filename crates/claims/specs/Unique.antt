@@ -57,10 +57,13 @@ use Rattle.tunnelling.specs.RequestLaws as TunnelRequestLaws
 use Rattle.tunnelling.specs.Ack as Ack
 use Rattle.tunnelling.specs.AckLaws as AckLaws
 use denote.Ref.{now}
-use Rattle.kip.specs.Scan as Scan
-use Rattle.kip.specs.ScanLaws as ScanLaws
-use Rattle.kip.specs.declared.scanning.Spot.{Spot}
-use Rattle.kip.specs.declared.scanning.Scanned.{Scanned}
+use Rattle.kip_inspect.specs.Scan as Scan
+use Rattle.kip_inspect.specs.ScanLaws as ScanLaws
+use Rattle.kip_inspect.specs.declared.scanning.Spot.{Spot}
+use Rattle.kip_inspect.specs.declared.scanning.Scanned.{Scanned}
+use Rattle.kip_inspect.specs.Turns as Turns
+use Rattle.kip_inspect.specs.declared.turns.Progress.{Progress}
+use Rattle.inspect_io.specs.Run as Run
 use Rattle.views.specs.KnxnetIp as KnxnetIp
 use Rattle.views.specs.KnxnetIpLaws as KnxnetIpLaws
 use Rattle.views.specs.LData as LDataView
@@ -75,10 +78,10 @@ use Rattle.tunnel.specs.declared.Tunnel.{Tunnel}
 use Rattle.tunnel_model.specs.Calls.{Call, Open, Close, Timeout, Send, Datagram}
 use Rattle.digits.specs.Digits as Digits
 use Rattle.kip.specs.Capture as Capture
-use Rattle.kip.specs.Judge as Judge
-use Rattle.kip.specs.JudgeLaws as JudgeLaws
-use Rattle.kip.specs.Line as Line
-use Rattle.kip.specs.LineLaws as LineLaws
+use Rattle.kip_inspect.specs.Judge as Judge
+use Rattle.kip_inspect.specs.JudgeLaws as JudgeLaws
+use Rattle.kip_inspect.specs.Line as Line
+use Rattle.kip_inspect.specs.LineLaws as LineLaws
 use Rattle.replay.specs.Telling as Telling
 use Rattle.replay.specs.Line as CallLine
 use Rattle.replay.specs.Laws as CallLaws
@@ -721,19 +724,43 @@ kip-starts s r q = same
 pub kip-next-record : One₂ Capture.NextPromise
 kip-next-record s at r q = same
 
--- kip::judge
+-- kip_inspect::judge
 pub kip-judge : One Judge.JudgePromise
 kip-judge = JudgeLaws.judge-one
 
--- kip::line
+-- kip_inspect::line
 pub kip-line : Lent₂ Line.LinePromise
 kip-line = LineLaws.line-one
 
--- kip::scan
+-- kip_inspect::scan
 pub kip-scan : (s out : List ℕ) (spot : Spot) (r q : Scanned) (after later : List ℕ) → Scan.ScanPromise s out spot r after → Scan.ScanPromise s out spot q later → (r ≡ q) × (after ≡ later)
 kip-scan = ScanLaws.scan-one
 
--- kip::ending
+-- kip_inspect::heading
+pub kip-heading : Lent Line.HeadingPromise
+kip-heading = LineLaws.heading-one
+
+-- kip_inspect::begin
+pub kip-begin : (r q : Progress) → Turns.BeginPromise r → Turns.BeginPromise q → r ≡ q
+kip-begin r q = same
+
+-- kip_inspect::written_out
+pub kip-written-out : One Turns.WrittenOutPromise
+kip-written-out p r q = same
+
+-- kip_inspect::read_on
+pub kip-read-on : One₃ Turns.ReadOnPromise
+kip-read-on s p k r q = same
+
+-- kip_inspect::to_front
+pub kip-to-front : (s : List ℕ) (p r q : Progress) (after later : List ℕ) → Turns.ToFrontPromise s p r after → Turns.ToFrontPromise s p q later → (r ≡ q) × (after ≡ later)
+kip-to-front s p r q after later a b = (same (a .0) (b .0), same (a .1) (b .1))
+
+-- inspect_io::run
+pub inspect-run : (r q : Unit {0}) → Run.RunPromise r → Run.RunPromise q → r ≡ q
+inspect-run r q = same
+
+-- kip_inspect::ending
 pub kip-ending : Lent₂ Line.EndingPromise
 kip-ending = LineLaws.ending-one
 

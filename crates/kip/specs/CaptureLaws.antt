@@ -1,16 +1,38 @@
--- Where the next record of a buffer stands. Assumes nothing.
+-- What the first bytes say of a capture's start, and where the next record of a buffer stands. Assumes nothing.
 use Prim.Native.Nat.{ℕ, _+_, _-_, _<_, _≤_}
 use native.Mathlib.Omega.{arith}
 use native.Mathlib.Nat.{add-zero}
-use mathlib.Core.Path.{_≡_, ap, _∙_}
-use mathlib.Core.Bool.{true, false, cond}
-use mathlib.Core.List.{List}
-use lib.ListN.{length, getD, drop, length-drop}
+use mathlib.Core.Path.{_≡_, refl, ap, _∙_}
+use mathlib.Core.Bool.{Bool, true, false, cond}
+use mathlib.Core.List.{List, _++_}
+use lib.ListN.{length, getD, drop, length-drop, length-append, List·getD-append}
 use lib.Seq.{getD-drop}
-use lib.Dec.{ltb, leb}
-use borrow.Author.Tests.{lt-ltb, le-ltb, le-leb, lt-leb}
+use lib.Dec.{eqb, ltb, leb}
+use borrow.Author.Tests.{lt-ltb, le-ltb, le-leb, lt-leb, ltb-false}
 use Rattle.wire.specs.Layout.{wordOf, wordAt}
-use Rattle.kip.specs.Capture.{whole}
+use Rattle.kip.specs.Capture.{startsBy01, whole}
+
+-- ---- the start
+
+-- a start has five bytes
+pub starts-five : (s : List ℕ) → startsBy01 s ≡ true → 5 ≤ length s
+starts-five s q = go (ltb (length s) 5) refl q
+  where
+    go : (b : Bool) → ltb (length s) 5 ≡ b
+        → cond b false (cond (eqb (getD s 0 0) 0x4B) (cond (eqb (getD s 1 0) 0x49) (cond (eqb (getD s 2 0) 0x50) (eqb (wordAt s 3) 1) false) false) false) ≡ true → 5 ≤ length s
+    go true e p = absurd (let z : _≡_ {A = ℕ} 0 1 = cc in omega arith)
+    go false e p = ltb-false (length s) 5 e
+
+-- and bytes behind them make no difference
+pub starts-more : (s a : List ℕ) → 5 ≤ length s → startsBy01 (s ++ a) ≡ startsBy01 s
+starts-more s a h =
+    let longer : 5 ≤ length (s ++ a) = omega (arith, length-append s a) in
+    let b0 : getD (s ++ a) 0 0 ≡ getD s 0 0 = List·getD-append s a 0 0 (omega arith) in
+    let b1 : getD (s ++ a) 1 0 ≡ getD s 1 0 = List·getD-append s a 0 1 (omega arith) in
+    let b2 : getD (s ++ a) 2 0 ≡ getD s 2 0 = List·getD-append s a 0 2 (omega arith) in
+    let b3 : getD (s ++ a) 3 0 ≡ getD s 3 0 = List·getD-append s a 0 3 (omega arith) in
+    let b4 : getD (s ++ a) 4 0 ≡ getD s 4 0 = List·getD-append s a 0 4 (omega arith) in
+    simp (le-ltb (length (s ++ a)) 5 longer, le-ltb (length s) 5 h, b0, b1, b2, b3, b4)
 
 -- ---- where the next record stands
 

@@ -1,5 +1,5 @@
 -- Stepping through a capture: a buffer holds what is read and not yet handed on, records are handed on from it, and it is refilled at any moment by any number of bytes. What is handed on are the records of the whole, in order, and what is left at the end is what they leave. Assumes nothing.
-use Prim.Native.Nat.{ℕ, zero, suc, _+_, _-_, _≤_}
+use Prim.Native.Nat.{ℕ, zero, suc, _+_, _-_, _<_, _≤_}
 use native.Mathlib.Omega.{arith}
 use mathlib.Core.Path.{_≡_, refl, sym, ap, _∙_}
 use mathlib.Core.Bool.{Bool, true, false, cond}
@@ -7,8 +7,9 @@ use mathlib.Core.List.{List, [], _∷_, _++_, append-assoc, append-nil}
 use lib.ListN.{length, getD, take, drop, length-drop, length-append, take-append-drop, List·getD-append}
 use lib.Seq.{take-append-le, drop-append-le, drop-drop}
 use lib.Dec.{ltb, leb}
-use borrow.Author.Tests.{le-ltb, le-leb, ltb-false, leb-true}
+use borrow.Author.Tests.{le-ltb, le-leb, ltb-false, leb-true, leb-false}
 use Rattle.wire.specs.Layout.{wordOf, wordAt}
+use Rattle.wire.specs.LayoutLaws.{Bytes}
 use Rattle.wire.specs.Parts.{partOf}
 use Rattle.wire.specs.PartLaws.{part-is}
 use Rattle.kip.specs.Capture.{whole, firstIn, restIn, recordsOf, leftOf, records, left, NextPromise}
@@ -30,6 +31,18 @@ is-whole s q = go (ltb (length s) 2) refl q
 
 whole-is : (s : List ℕ) → Whole s → whole s ≡ true
 whole-is s w = simp (le-ltb (length s) 2 (w .two), le-leb (2 + wordAt s 0) (length s) (w .fits))
+
+-- where no whole record stands, fewer bytes stand than the longest has
+pub none-fits : (s : List ℕ) → Bytes s → whole s ≡ false → length s < 65537
+none-fits s b q = go (leb 65537 (length s)) refl
+  where
+    go : (c : Bool) → leb 65537 (length s) ≡ c → length s < 65537
+    go true e =
+        let long : 65537 ≤ length s = leb-true 65537 (length s) e in
+        let fits : 2 + wordAt s 0 ≤ length s = omega (arith, b 0, b (0 + 1)) in
+        let t : true ≡ false = sym (whole-is s (record { two = omega arith; fits = fits })) ∙ q in
+        absurd (let z : _≡_ {A = ℕ} 0 1 = cc in omega arith)
+    go false e = leb-false 65537 (length s) e
 
 -- bytes behind a whole record make no difference to it
 module _ (u a : List ℕ) (w : Whole u) where

@@ -1,0 +1,73 @@
+-- `judge` keeps its contract. Assumes nothing.
+use Prim.Native.Nat.{ℕ}
+use mathlib.Core.Path.{refl, ap, sym, _∙_}
+use mathlib.Core.List.{[], _∷_}
+use lib.ListN.{length}
+use Rattle.wire.specs.Told.{Told, done, viewed, verdict}
+use Rattle.wire.specs.ToldLaws.{carried, let-pass, let-refuse, let-through, was-accepted, was-refused}
+use Rattle.wire.specs.Layout.{get}
+use Rattle.header.specs.Header.{fields, values, serviceIn, totalIn}
+use Rattle.frame.specs.Frame as Frame
+use Rattle.frame.specs.declared.fields.FrameAnswer.the-variants.{Frame}
+use borrow.Author.Needs.{needs}
+use Rattle.kip_inspect.proofs.judging.judge.Statement.{statement}
+use Rattle.kip_inspect.proofs.judging.judge.Tie as tie
+
+parse-requires : tie.Need-parse-requires
+parse-requires c κs = search needs
+
+enum-known-frame : tie.Need-enum-known-frame
+enum-known-frame c = search needs
+
+data-requires : tie.Need-data-requires
+data-requires c κs = search needs
+
+word-at-requires : tie.Need-word-at-requires
+word-at-requires c κs = search needs
+
+enum-known-why : tie.Need-enum-known-why
+enum-known-why c = search needs
+
+number-requires : tie.Need-number-requires
+number-requires c κs = search needs
+
+returns : tie.Need-returns
+returns c =
+    let s = c .before .before .before .before .before .before .before .args .bytes .now in
+    let vs = get fields 0 s in
+    let cs = Frame.checks (length s) vs in
+    let read = c .before .before .before .frame .given in
+    let p = carried Frame.ParsePromise {a = s} refl (read .1) (c .before .before .before .before .before .parse .ensures) in
+    let f = read .0 .0 in
+    let t = Frame.told (Frame f) in
+    let same = let-through cs (done vs) t refl p in
+    let passed = was-accepted cs (done vs) t refl p in
+    let own = c .before .«data» in
+    let view = own .ensures ∙ let-pass (Frame.recordChecks f (length s)) (viewed 0 (f .header .«total_length»)) (ap (λ (u : Told). verdict (Frame.checks (length s) (u .values))) same ∙ passed) in
+    ap (λ (code : ℕ). done (code ∷ own .result .end ∷ [])) (c .word-at .ensures)
+    ∙ ap (λ (k : ℕ). done (serviceIn vs ∷ k ∷ [])) (ap (λ (u : Told). u .end) view ∙ ap (λ (u : Told). totalIn (u .values)) same)
+    ∙ sym (let-pass cs (done (serviceIn vs ∷ totalIn vs ∷ [])) passed)
+
+returns-2 : tie.Need-returns-2
+returns-2 c =
+    let s = c .before .before .before .before .before .before .args .bytes .now in
+    let vs = get fields 0 s in
+    let cs = Frame.checks (length s) vs in
+    let why = c .before .before .why .given in
+    let e = why .0 .0 in
+    let p = carried Frame.ParsePromise {a = s} refl (why .1) (c .before .before .before .before .parse .ensures) in
+    ap (λ (k : ℕ). record { number = k; values = 0 ∷ 0 ∷ []; start = 0; end = 0 }) (c .number .ensures)
+    ∙ sym (let-refuse cs (done (serviceIn vs ∷ totalIn vs ∷ [])) e (was-refused cs (done vs) 4 e refl p))
+
+pub judge-spec : {M : Type 1} → statement M
+judge-spec =
+    tie.close
+    (tie.spec
+    parse-requires
+    enum-known-frame
+    data-requires
+    word-at-requires
+    enum-known-why
+    number-requires
+    returns
+    returns-2)
