@@ -6,6 +6,7 @@ use mathlib.Core.Bool.{Bool, true, false, not, cond}
 use mathlib.Core.List.{List, [], _∷_, _++_}
 use lib.ListN.{length, getD}
 use lib.Dec.{ltb}
+use Rattle.wire.specs.Clash.{never}
 use Rattle.wire.specs.Told.{Told, done, viewed, Check, _⇒_, verdict, judged}
 use Rattle.wire.specs.ToldLaws.{one-to-one, same, stays, let-pass, let-refuse, let-through, was-accepted, was-refused}
 use Rattle.wire.specs.Parts.{partOf}
@@ -51,7 +52,7 @@ last-hold [] ds q = q
 last-hold (broken ⇒ e ∷ cs) ds q = go broken q (last-hold cs ds)
   where
     go : (b : Bool) → cond b (Refuse e) (verdict (cs ++ ds)) ≡ Accept → (verdict (cs ++ ds) ≡ Accept → verdict ds ≡ Accept) → verdict ds ≡ Accept
-    go true p later = absurd (let z : _≡_ {A = ℕ} 0 1 = cc in omega arith)
+    go true p later = never cc
     go false p later = later p
 
 module _ (s : List ℕ) (f : CEMIFrame) (parsed : Cemi.ParsePromise s (C.Frame f)) where

@@ -7,6 +7,7 @@ use mathlib.Core.List.{List, _++_}
 use lib.ListN.{length, take, length-append}
 use lib.Seq.{take-at, length-take-le}
 use borrow.Author.Tests.{le-leb}
+use Rattle.wire.specs.Clash.{never}
 use Rattle.kip_inspect.specs.Turns.{first, ReadOnPromise}
 use Rattle.kip_inspect.specs.declared.turns.Progress.{Progress}
 use Rattle.inspect_io.specs.Reading.{stopsAt, came, ReadMore, StartPromise, there}
@@ -59,15 +60,15 @@ module _ (input : List ℕ) (p : Progress) (after : List ℕ) (r : Turned) (q : 
     where
       some : (went : Went) → came went (q .count) → stopsAt went ≡ false → 1 ≤ q .count
       some On c e = c
-      some Ended c e = absurd (let z : _≡_ {A = ℕ} 0 1 = cc in omega arith)
-      some Unread c e = absurd (let z : _≡_ {A = ℕ} 0 1 = cc in omega arith)
+      some Ended c e = never cc
+      some Unread c e = never cc
       some Unwritten c e = absurd c
       some TooLong c e = absurd c
 
 -- ---- the start is there, or it does not go on
 
 pub not-on : (went : Went) (have : ℕ) → stopsAt went ≡ true → there went have
-not-on On have e = absurd (let z : _≡_ {A = ℕ} 0 1 = cc in omega arith)
+not-on On have e = never cc
 not-on Ended have e = tt
 not-on Unread have e = tt
 not-on Unwritten have e = tt

@@ -9,6 +9,7 @@ use lib.ListN.{length, getD, drop, length-drop, length-append, List·getD-append
 use lib.Seq.{getD-drop}
 use lib.Dec.{eqb, ltb, leb}
 use borrow.Author.Tests.{lt-ltb, le-ltb, le-leb, lt-leb, ltb-false}
+use Rattle.wire.specs.Clash.{never}
 use Rattle.wire.specs.Layout.{wordOf, wordAt}
 use Rattle.kip.specs.Capture.{startsBy01, whole}
 
@@ -20,7 +21,7 @@ starts-five s q = go (ltb (length s) 5) refl q
   where
     go : (b : Bool) → ltb (length s) 5 ≡ b
         → cond b false (cond (eqb (getD s 0 0) 0x4B) (cond (eqb (getD s 1 0) 0x49) (cond (eqb (getD s 2 0) 0x50) (eqb (wordAt s 3) 1) false) false) false) ≡ true → 5 ≤ length s
-    go true e p = absurd (let z : _≡_ {A = ℕ} 0 1 = cc in omega arith)
+    go true e p = never cc
     go false e p = ltb-false (length s) 5 e
 
 -- and bytes behind them make no difference

@@ -8,6 +8,7 @@ use lib.ListN.{length, getD, take, drop, length-drop, length-append, take-append
 use lib.Seq.{take-append-le, drop-append-le, drop-drop}
 use lib.Dec.{ltb, leb}
 use borrow.Author.Tests.{le-ltb, le-leb, ltb-false, leb-true, leb-false}
+use Rattle.wire.specs.Clash.{never}
 use Rattle.wire.specs.Layout.{wordOf, wordAt}
 use Rattle.wire.specs.LayoutLaws.{Bytes}
 use Rattle.wire.specs.Parts.{partOf}
@@ -26,7 +27,7 @@ pub is-whole : (s : List ℕ) → whole s ≡ true → Whole s
 is-whole s q = go (ltb (length s) 2) refl q
   where
     go : (b : Bool) → ltb (length s) 2 ≡ b → cond b false (leb (2 + wordAt s 0) (length s)) ≡ true → Whole s
-    go true e p = absurd (let z : _≡_ {A = ℕ} 0 1 = cc in omega arith)
+    go true e p = never cc
     go false e p = record { two = ltb-false (length s) 2 e; fits = leb-true (2 + wordAt s 0) (length s) p }
 
 whole-is : (s : List ℕ) → Whole s → whole s ≡ true
@@ -41,7 +42,7 @@ none-fits s b q = go (leb 65537 (length s)) refl
         let long : 65537 ≤ length s = leb-true 65537 (length s) e in
         let fits : 2 + wordAt s 0 ≤ length s = omega (arith, b 0, b (0 + 1)) in
         let t : true ≡ false = sym (whole-is s (record { two = omega arith; fits = fits })) ∙ q in
-        absurd (let z : _≡_ {A = ℕ} 0 1 = cc in omega arith)
+        never cc
     go false e = leb-false 65537 (length s) e
 
 -- bytes behind a whole record make no difference to it
@@ -92,7 +93,7 @@ names s at start end p = go (whole (drop at s)) refl p
 
     go : (b : Bool) → whole (drop at s) ≡ b → Record start end ≡ cond b (Record (at + 2) (at + 2 + wordAt s at)) Short → Named s at start end
     go true e q = let a : start ≡ at + 2 = cc in let b : end ≡ at + 2 + wordAt s at = cc in there e (wordAt s at) refl a b
-    go false e q = absurd (let z : _≡_ {A = ℕ} 0 1 = cc in omega arith)
+    go false e q = never cc
 
 -- ---- the records of a byte string do not depend on the bound of their count
 

@@ -9,6 +9,7 @@ use lib.ListN.{length, take, drop, length-drop, length-append, take-append-drop}
 use lib.Seq.{drop-drop, length-take-le, take-at}
 use lib.Dec.{leb, ltb}
 use borrow.Author.Tests.{leb-true}
+use Rattle.wire.specs.Clash.{never}
 use Rattle.wire.specs.Layout.{wordAt, copied}
 use Rattle.wire.specs.LayoutLaws.{copied-is, copied-on}
 use Rattle.kip.specs.Capture.{whole, firstIn, restIn, records, left}
@@ -142,8 +143,8 @@ scan-ends (suc k) s at used n out h q =
         → (length s - (at + 2 + wordAt s at) ≤ k → on .stop ≡ Short → whole (drop (on .at) s) ≡ false)
         → whole (drop (turned b m c at used n out on .at) s) ≡ false
     go false m c e p ih = e
-    go true false c e p ih = absurd (let z : _≡_ {A = ℕ} 0 1 = cc in omega arith)
-    go true true false e p ih = absurd (let z : _≡_ {A = ℕ} 0 1 = cc in omega arith)
+    go true false c e p ih = never cc
+    go true true false e p ih = never cc
     go true true true e p ih = let two = is-whole (drop at s) e .two in ih (omega (arith, length-drop at s)) p
 
 -- ---- of the code's scan

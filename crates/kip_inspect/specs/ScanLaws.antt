@@ -8,6 +8,7 @@ use lib.ListN.{length, getD, take, drop, length-drop, take-append-drop, drop-of-
 use lib.Seq.{drop-drop}
 use lib.Dec.{ltb}
 use borrow.Author.Tests.{le-leb, lt-leb, le-ltb, lt-ltb, ltb-true, ltb-false}
+use Rattle.wire.specs.Clash.{never}
 use Rattle.wire.specs.Told.{Told, done, refused, Check, _⇒_, verdict, judged, lent}
 use Rattle.wire.specs.ToldLaws.{same, same-test, holds, let-through, was-accepted, was-refused}
 use Rattle.wire.specs.Parts.{partOf}
@@ -123,13 +124,13 @@ was-full w out at e p = go (ltb (length out) (at + length w)) refl
     go true f = ltb-true (length out) (at + length w) f
     go false f =
         let q : Refuse e ≡ Accept = sym (was-refused cs (done (length w ∷ [])) 1 e refl p) ∙ ap (λ (b : Bool). verdict (b ⇒ BufferTooSmall ∷ [])) f in
-        absurd (let z : _≡_ {A = ℕ} 0 1 = cc in omega arith)
+        never cc
 
 pub turn-short : (k : ℕ) (s : List ℕ) (at used n : ℕ) (out : List ℕ) → NextPromise s at Next.Short → scanOf k s at used n out ≡ stopped at used n out Short
 turn-short k s at used n out p = short k s at used n out (go (whole (drop at s)) refl p)
   where
     go : (b : Bool) → whole (drop at s) ≡ b → Next.Short ≡ cond b (Record (at + 2) (at + 2 + wordAt s at)) Next.Short → whole (drop at s) ≡ false
-    go true e q = absurd (let z : _≡_ {A = ℕ} 0 1 = cc in omega arith)
+    go true e q = never cc
     go false e q = e
 
 -- a turn that has a record which no number is left for
@@ -166,7 +167,7 @@ module _ (t : Turn) where
     where
       go : (b : Bool) → b ≡ true → Record (t .start) (t .end) ≡ cond b (Record (t .at + 2) (t .at + 2 + wordAt (t .input) (t .at))) Next.Short → t .end ≡ t .at + 2 + wordAt (t .input) (t .at)
       go true e q = cc
-      go false e q = absurd (let z : _≡_ {A = ℕ} 0 1 = cc in omega arith)
+      go false e q = never cc
 
   -- the line that is put is the record's
   abbrev line : List ℕ

@@ -89,12 +89,15 @@ pub fn to_front(input: &mut [u8], progress: Progress) -> Progress
     }
 }
 
-// The bytes from a place up to another one, to the start of the slice.
+// The bytes from a place up to another one, to the start of the slice. What stands there is left alone: a long record that comes in small pieces would else be moved once a piece.
 fn move_down(input: &mut [u8], from: usize, to: usize)
     requires { ⌜ from ≤ to ⌝ }
     requires { ⌜ to ≤ length (now input) ⌝ }
     ensures { λ _. ⌜ now (input .exit) ≡ paste (now (input .entry)) 0 (drop from (now (input .entry))) (to - from) ⌝ }
 {
+    if from == 0 {
+        return;
+    }
     let left = to - from;
     let mut i = 0;
     while i < left {

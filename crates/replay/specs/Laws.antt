@@ -8,6 +8,7 @@ use mathlib.Core.List.{List, [], _∷_, _++_, append-nil}
 use lib.ListN.{length, getD, take, drop, set, length-append, drop-of-length-le}
 use lib.Seq.{take-suc-set, append-snoc, length-take-le, drop-cons}
 use borrow.Author.Tests.{le-leb, lt-leb, eq-eqb, ne-eqb, ltb-true}
+use Rattle.wire.specs.Clash.{never}
 use Rattle.wire.specs.ToldLaws.{same}
 use Rattle.wire.specs.Layout.{copied}
 use Rattle.digits.specs.Digits.{decimal}
@@ -152,7 +153,7 @@ a-record call n m args buf part h k p =
     let long : length (take m buf) ≡ m = length-take-le m buf k in
     let filled : part ++ drop m buf ≡ patternFrom m 0 ++ drop m buf = ap (λ (l : List ℕ). l ++ drop m buf) (p ∙ ap (λ (j : ℕ). patternFrom j 0) long) in
     let fits : m ≤ length (part ++ drop m buf) = (let x = ap length p ∙ pattern-length (length (take m buf)) 0 in omega (arith, length-append part (drop m buf))) in
-    record { none = λ q. absurd (let z : _≡_ {A = ℕ} 0 1 = cc in omega arith); arguments = (h, sym (length-take-le n args h)); lends = (fits, sym (length-take-le m (part ++ drop m buf) fits)); filled = filled }
+    record { none = λ q. never cc; arguments = (h, sym (length-take-le n args h)); lends = (fits, sym (length-take-le m (part ++ drop m buf) fits)); filled = filled }
 
 -- ---- no second answer
 

@@ -1,10 +1,10 @@
 -- After i turns the first i bytes are moved; what is left to move falls. Assumes nothing.
 use Prim.Native.Nat.{ℕ, _+_, _-_, _≤_, _<_}
-use mathlib.Core.Path.{_≡_, refl, ap, _∙_}
-use mathlib.Core.List.{List}
+use mathlib.Core.Path.{_≡_, refl, sym, ap, _∙_}
+use mathlib.Core.List.{List, _++_}
 use native.Mathlib.Omega.{arith}
 use native.Mathlib.Numerals.{add-one}
-use lib.ListN.{length, length-set, length-drop, set, getD, drop}
+use lib.ListN.{length, length-set, length-drop, set, getD, take, drop, take-append-drop}
 use lib.Seq.{paste, paste-zero, paste-suc}
 use Rattle.kip_inspect.specs.TurnLaws.{behind-moved}
 use Rattle.kip_inspect.proofs.turns.move_down.Statement.{statement}
@@ -16,11 +16,20 @@ Inv-loop input₀ from to left i₀ input i = (i ≤ to - from) × ((input ≡ p
 abbrev μ-loop : tie.MeasureT-loop
 μ-loop input₀ from to left i₀ input i = to - from - i
 
+-- from the start on they stand there already
+returns : tie.Need-returns Inv-loop μ-loop
+returns c =
+    let a = c .before .args in
+    let x : List ℕ = a .input .now in
+    let same : drop (a .from) x ≡ x = ap (λ (k : ℕ). drop k x) (c .if1 .taken) in
+    let long : 0 + (a .to - a .from) ≡ a .to - a .from = omega arith in
+    sym (ap (λ (l : List ℕ). paste x 0 l (a .to - a .from)) same ∙ ap (λ (k : ℕ). take (a .to - a .from) x ++ drop k x) long ∙ take-append-drop (a .to - a .from) x)
+
 sub-left : tie.Need-sub-left Inv-loop μ-loop
 sub-left c = omega arith
 
 loop-holds : tie.Need-loop-holds Inv-loop μ-loop
-loop-holds c = (omega arith, (paste-zero (c .args .input .now) 0 (drop (c .args .from) (c .args .input .now)), refl))
+loop-holds c = (omega arith, (paste-zero (c .before .args .input .now) 0 (drop (c .before .args .from) (c .before .args .input .now)), refl))
 
 add-input : tie.Need-add-input Inv-loop μ-loop
 add-input c = omega arith
@@ -40,7 +49,7 @@ loop-less c = omega arith
 loop-again : tie.Need-loop-again Inv-loop μ-loop
 loop-again c =
     let l = c .before .before .loop in
-    let a = c .before .before .before .args in
+    let a = c .before .before .before .before .args in
     let x : List ℕ = a .input .now in
     let w : List ℕ = drop (a .from) x in
     let h : l .i < length w = simp length-drop (omega arith) in
@@ -57,10 +66,10 @@ loop-again c =
 same-length : tie.Need-same-length Inv-loop μ-loop
 same-length c = c .before .loop .inv .1 .1
 
-returns : tie.Need-returns Inv-loop μ-loop
-returns c =
+returns-2 : tie.Need-returns-2 Inv-loop μ-loop
+returns-2 c =
     let l = c .before .loop in
-    let a = c .before .before .args in
+    let a = c .before .before .before .args in
     let e : l .i ≡ a .to - a .from = omega arith in
     l .inv .1 .0 ∙ ap (paste (a .input .now) 0 (drop (a .from) (a .input .now))) e
 
@@ -70,6 +79,7 @@ move-down-spec =
     (tie.spec
     Inv-loop
     μ-loop
+    returns
     sub-left
     loop-holds
     add-input
@@ -79,4 +89,4 @@ move-down-spec =
     loop-less
     loop-again
     same-length
-    returns)
+    returns-2)
