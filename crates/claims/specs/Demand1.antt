@@ -342,7 +342,7 @@ pub table-calls : (t : Table) (c : Call) (r : Called) (after : List ℕ) → Cal
     → Zeros (Table.told r) × (after ≡ outOf c) × (r .table ≡ t)
 table-calls = Compiled.call-refusing
 
--- ---- views: a refused record holds nothing, and hands out nothing
+-- ---- views: what is refused by its parse holds nothing; a record that is refused, by its answer or by the checks that are repeated, hands out nothing, and its view has the number
 
 -- views::KnxnetIpFrame::parse
 pub knxnet-ip-parse : (s : List ℕ) (r : KnxnetIpFrame) → KnxnetIp.ParsePromise s r → Refusing (Frame.told (r .answer))
@@ -355,6 +355,13 @@ knxnet-ip-holds = KnxnetIpLaws.holds-none
 pub knxnet-ip-body : (f : KnxnetIpFrame) (e : Refusal) (r : List ℕ) → f .answer ≡ FA.Refused e → KnxnetIp.BodyPromise f r → r ≡ []
 knxnet-ip-body = KnxnetIpLaws.body-none
 
+pub knxnet-ip-body-part : (f : KnxnetIpFrame) (v : View) (r : List ℕ) → KnxnetIp.BodyViewPromise (now (f .«data»)) (f .answer) v → KnxnetIp.BodyPromise f r → (v .number ≡ 0 → ⊥) → r ≡ []
+knxnet-ip-body-part = KnxnetIpLaws.body-refused
+
+-- views::body_view
+pub knxnet-ip-body-view : (s : List ℕ) (a : FrameAnswer) (r : View) → KnxnetIp.BodyViewPromise s a r → Refusing (Parts.told r)
+knxnet-ip-body-view = KnxnetIpLaws.view-refusing
+
 -- views::body_in
 pub knxnet-ip-body-in : (s r : List ℕ) (e : Refusal) → verdict (Frame.checks (length s) (get Header.fields 0 s)) ≡ Refuse e → KnxnetIp.BodyInPromise s r → r ≡ []
 knxnet-ip-body-in s r e v q = q ∙ shown-refused (Frame.checks (length s) (get Header.fields 0 s)) (viewed 6 (Header.totalIn (get Header.fields 0 s))) e s v
@@ -365,6 +372,17 @@ ldata-frame-parse s r p = ldata-parse s (r .answer) (p .1)
 
 pub ldata-frame-holds : (s : List ℕ) (r : LDataFrame) (e : Refusal) → LDataView.ParsePromise s r → r .answer ≡ LA.Refused e → now (r .«data») ≡ []
 ldata-frame-holds = LDataViewLaws.holds-none
+
+-- views::LDataFrame::data
+pub ldata-frame-data : (f : LDataFrame) (e : Refusal) (r : List ℕ) → f .answer ≡ LA.Refused e → LDataView.DataPromise f r → r ≡ []
+ldata-frame-data = LDataViewLaws.data-none
+
+pub ldata-frame-data-part : (f : LDataFrame) (v : View) (r : List ℕ) → LDataView.DataViewPromise (now (f .«data»)) (f .answer) v → LDataView.DataPromise f r → (v .number ≡ 0 → ⊥) → r ≡ []
+ldata-frame-data-part = LDataViewLaws.data-refused
+
+-- views::data_view
+pub ldata-frame-data-view : (s : List ℕ) (a : LDataAnswer) (r : View) → LDataView.DataViewPromise s a r → Refusing (Parts.told r)
+ldata-frame-data-view = LDataViewLaws.view-refusing
 
 -- views::data_in
 pub ldata-frame-data-in : (s r : List ℕ) (e : Refusal) → LData.ParsePromise s (LA.Refused e) → LDataView.DataInPromise s r → r ≡ []
@@ -527,7 +545,6 @@ host-table-calls = CalledLaws.call-refusing
 -- kip::starts
 -- kip::next_record
 -- kip::scan
--- views::LDataFrame::data
 -- image::unpack
 -- digits::places
 -- digits::put_digits

@@ -95,7 +95,7 @@ fn frame_parse(args: &[u8]) -> Told {
     }
 }
 
-// What the accessors tell of a frame that was parsed, and the parts that they hand out.
+// What the accessors tell of a frame that was parsed, and the parts that are handed out: the body by the record that holds its slice.
 fn frame(f: FrameFields, args: &[u8]) -> Told {
     let mut t = frame_header(f.header(args));
     let service = f.service_type(args);
@@ -105,7 +105,7 @@ fn frame(f: FrameFields, args: &[u8]) -> Told {
     t.values[6] = code_in(service);
     t.values[7] = body.start;
     t.values[8] = body.end;
-    t.values[9] = replay::remainder(f.body_part(args));
+    t.values[9] = replay::remainder(views::body_in(args));
     t.values[10] = data.start;
     t.values[11] = data.end;
     t.values[12] = replay::remainder(f.data_part(args));

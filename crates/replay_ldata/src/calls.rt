@@ -61,9 +61,10 @@ fn ldata_parse(args: &[u8]) -> Told {
     }
 }
 
+// The data's bytes come by the record that holds them.
 fn ldata(f: LDataFields, args: &[u8]) -> Told {
     let view = f.data(args);
-    let rest = replay::remainder(f.data_part(args));
+    let rest = replay::remainder(views::data_in(args));
     let mut t = fields(f, view.start, view.end, rest);
     t.count = 15;
     t.values[12] = group(f);
