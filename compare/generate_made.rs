@@ -1,7 +1,7 @@
 // The input records of accessors on records that no parse made; the helpers are in generate.rs.
 
 use crate::generate::{filler, header, near_good, Emit, Rng, Size};
-use crate::generate_ldata::{cemi_inputs, random_cemi};
+use crate::generate_ldata::{cemi_inputs, random_cemi, LDATA};
 
 /// The values of a field: the good one first.
 const LENGTHS: [u8; 3] = [6, 5, 0];
@@ -47,14 +47,19 @@ fn frames(size: Size, emit: Emit) {
     }
 }
 
-/// Every message code, by its number, over the slices of calls 41 to 44, and over short ones.
+/// Every message code, by its number, over the slices of calls 41 to 44, and over short ones; in the
+/// sample two codes over all of them.
 fn cemi(size: Size, emit: Emit) {
-    let codes = if size.full() { 1..=7 } else { 3..=4 };
-    for code in codes {
+    for code in 1..=7 {
         let both = &mut |slice: &[u8]| {
             emit(53, &[&[code], slice].concat(), 0);
             emit(54, &[&[code], slice].concat(), 0);
         };
+        both(&[0x13, 5]);
+        both(&[&[0x29, 1, 0xAA][..], &LDATA].concat());
+        if !size.full() && !(3..=4).contains(&code) {
+            continue;
+        }
         cemi_inputs(size, both);
         for first in [0x11, 0x2B, 0x13] {
             for additional in [0, 1, 5, 10, 11, 255] {
