@@ -3,7 +3,7 @@ use Prim.Native.Nat.{ℕ, _+_}
 use mathlib.Core.Path.{_≡_, refl, _∙_}
 use mathlib.Core.List.{List, [], _∷_, _++_}
 use lib.ListN.{length}
-use Rattle.wire.specs.Told.{done, viewed, verdict}
+use Rattle.wire.specs.Told.{done, refused, viewed, verdict}
 use Rattle.wire.specs.Layout.{get}
 use Rattle.wire.specs.Written.{WritePromise, room}
 use Rattle.wire.specs.Written as Written
@@ -362,6 +362,9 @@ knxnet-ip-body-part = KnxnetIpLaws.body-refused
 pub knxnet-ip-body-view : (s : List ℕ) (a : FrameAnswer) (r : View) → KnxnetIp.BodyViewPromise s a r → Refusing (Parts.told r)
 knxnet-ip-body-view = KnxnetIpLaws.view-refusing
 
+pub knxnet-ip-body-number : (s : List ℕ) (a : FrameAnswer) (e : Refusal) (r : View) → a ≡ FA.Refused e → KnxnetIp.BodyViewPromise s a r → Parts.told r ≡ refused 0 e
+knxnet-ip-body-number = KnxnetIpLaws.view-none
+
 -- views::body_in
 pub knxnet-ip-body-in : (s r : List ℕ) (e : Refusal) → verdict (Frame.checks (length s) (get Header.fields 0 s)) ≡ Refuse e → KnxnetIp.BodyInPromise s r → r ≡ []
 knxnet-ip-body-in s r e v q = q ∙ shown-refused (Frame.checks (length s) (get Header.fields 0 s)) (viewed 6 (Header.totalIn (get Header.fields 0 s))) e s v
@@ -383,6 +386,9 @@ ldata-frame-data-part = LDataViewLaws.data-refused
 -- views::data_view
 pub ldata-frame-data-view : (s : List ℕ) (a : LDataAnswer) (r : View) → LDataView.DataViewPromise s a r → Refusing (Parts.told r)
 ldata-frame-data-view = LDataViewLaws.view-refusing
+
+pub ldata-frame-data-number : (s : List ℕ) (a : LDataAnswer) (e : Refusal) (r : View) → a ≡ LA.Refused e → LDataView.DataViewPromise s a r → Parts.told r ≡ refused 0 e
+ldata-frame-data-number = LDataViewLaws.view-none
 
 -- views::data_in
 pub ldata-frame-data-in : (s r : List ℕ) (e : Refusal) → LData.ParsePromise s (LA.Refused e) → LDataView.DataInPromise s r → r ≡ []

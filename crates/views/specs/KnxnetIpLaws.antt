@@ -4,7 +4,7 @@ use mathlib.Core.Path.{_≡_, refl, sym, ap, _∙_}
 use mathlib.Core.List.{List, []}
 use lib.ListN.{length}
 use denote.Ref.{now}
-use Rattle.wire.specs.Told.{Told, done, viewed, Check, verdict, judged}
+use Rattle.wire.specs.Told.{Told, done, refused, viewed, Check, verdict, judged}
 use Rattle.wire.specs.ToldLaws.{same, let-refuse, let-through, was-refused}
 use Rattle.wire.specs.Layout.{get}
 use Rattle.wire.specs.Parts.{shown}
@@ -18,7 +18,7 @@ use Rattle.frame.specs.FrameLaws as FrameLaws
 use Rattle.frame.specs.declared.fields.FrameAnswer.{FrameAnswer}
 use Rattle.frame.specs.declared.fields.FrameAnswer.the-variants.{Frame, Refused}
 use Rattle.views.specs.Kept.{kept, kept-all, kept-none, empty-part, shows-none}
-use Rattle.views.specs.KnxnetIp.{ParsePromise, BodyViewPromise, bodyOf, BodyPromise, BodyInPromise}
+use Rattle.views.specs.KnxnetIp.{ParsePromise, viewOf, BodyViewPromise, bodyOf, BodyPromise, BodyInPromise}
 use Rattle.views.specs.declared.knxnet_ip.KnxnetIpFrame.{KnxnetIpFrame}
 
 module _ (s : List ℕ) where
@@ -45,6 +45,10 @@ holds-none s f e p q = p .0 ∙ sym (kept-none (cs s) (told s) 4 e s refl (sym (
 
 pub body-none : (f : KnxnetIpFrame) (e : Refusal) (r : List ℕ) → f .answer ≡ Refused e → BodyPromise f r → r ≡ []
 body-none f e r q p = p ∙ ap (λ (a : FrameAnswer). bodyOf a (now (f .«data»))) q ∙ empty-part (now (f .«data»))
+
+-- the view of a refused record tells that refusal
+pub view-none : (s : List ℕ) (a : FrameAnswer) (e : Refusal) (r : View) → a ≡ Refused e → BodyViewPromise s a r → Parts.told r ≡ refused 0 e
+view-none s a e r q p = p ∙ ap (λ (b : FrameAnswer). viewOf b s) q
 
 -- a view that is refused tells its number and no more
 pub view-refusing : (s : List ℕ) (a : FrameAnswer) (r : View) → BodyViewPromise s a r → Refusing (Parts.told r)

@@ -9,7 +9,7 @@ use lib.Seq.{take-all, length-take-le}
 use lib.Dec.{leb}
 use borrow.Author.Tests.{lt-ltb, le-ltb, le-leb, lt-leb, leb-true}
 use denote.Ref.{now}
-use Rattle.wire.specs.Told.{done, viewed, verdict, judged}
+use Rattle.wire.specs.Told.{done, refused, viewed, verdict, judged}
 use Rattle.wire.specs.ToldLaws.{same, let-pass, let-refuse, was-accepted, was-refused, is-true}
 use Rattle.wire.specs.Layout.{get}
 use Rattle.wire.specs.Parts.{shown}
@@ -29,7 +29,7 @@ use Rattle.ldata.specs.declared.fields.LDataFields.{LDataFields}
 use Rattle.ldata.specs.declared.fields.LDataAnswer.{LDataAnswer}
 use Rattle.ldata.specs.declared.fields.LDataAnswer.the-variants.{Frame, Refused}
 use Rattle.views.specs.Kept.{empty-part, shows-none}
-use Rattle.views.specs.LData.{dataIn, ParsePromise, heldChecks, DataViewPromise, dataOf, DataPromise, DataInPromise}
+use Rattle.views.specs.LData.{dataIn, ParsePromise, heldChecks, viewOf, DataViewPromise, dataOf, DataPromise, DataInPromise}
 use Rattle.views.specs.declared.l_data.LDataFrame.{LDataFrame}
 
 pub fields-data : (s : List ℕ) (f : LDataFields) → LData.ParsePromise s (Frame f) → shown s (LData.dataBy01 crateCount f s) ≡ dataIn s
@@ -94,6 +94,10 @@ holds-none s f e p q = p .0 ∙ refused-data s e (sym (ap LData.told q) ∙ p .1
 
 pub data-none : (f : LDataFrame) (e : Refusal) (r : List ℕ) → f .answer ≡ Refused e → DataPromise f r → r ≡ []
 data-none f e r q p = p ∙ ap (λ (a : LDataAnswer). dataOf a (now (f .«data»))) q ∙ empty-part (now (f .«data»))
+
+-- the view of a refused record tells that refusal
+pub view-none : (s : List ℕ) (a : LDataAnswer) (e : Refusal) (r : View) → a ≡ Refused e → DataViewPromise s a r → Parts.told r ≡ refused 0 e
+view-none s a e r q p = p ∙ ap (λ (b : LDataAnswer). viewOf b s) q
 
 -- a view that is refused tells its number and no more
 pub view-refusing : (s : List ℕ) (a : LDataAnswer) (r : View) → DataViewPromise s a r → Refusing (Parts.told r)
