@@ -1,14 +1,13 @@
-// Frames whose fields no parse read: by the accessors of the fields, and as what a record that holds its slice would hold.
+// Frames whose fields no parse read, by the accessors of the fields.
 use crate::variants;
 use constants::ServiceAnswer;
-use frame::FrameAnswer;
 use frame::FrameFields;
 use header::HeaderAnswer;
 use header::KnxnetIpHeader;
 use replay::Told;
 
 // Length, version, service by its number, total.
-fn fields_at(args: &[u8]) -> FrameFields {
+pub(crate) fn fields_at(args: &[u8]) -> FrameFields {
     let service_type = variants::service_of(wire::byte_at(args, 2));
     let header = KnxnetIpHeader {
         header_length: wire::byte_at(args, 0),
@@ -71,16 +70,4 @@ fn service(a: ServiceAnswer) -> usize {
         ServiceAnswer::Service(s) => variants::service(s),
         ServiceAnswer::Refused(_) => 0,
     }
-}
-
-// The refusal that the record holds, 0 for none, then the fields and the bytes that it holds.
-pub(crate) fn held(args: &[u8]) -> Told {
-    let fields = fields_at(wire::part(args, 1, args.len()));
-    let data = wire::part(args, 6, args.len());
-    let refused = wire::byte_at(args, 0);
-    if refused == 0 {
-        return variants::view(views::body_view(data, FrameAnswer::Frame(fields)), data);
-    }
-    let answer = FrameAnswer::Refused(variants::refusal_of(refused));
-    variants::view(views::body_view(data, answer), data)
 }

@@ -2,6 +2,7 @@
 // what a second writing of 01's rules answers to the same records is beside it, in `stdout` for the fixed sample.
 mod calls;
 mod frames;
+mod held;
 mod telegrams;
 mod variants;
 

@@ -1,4 +1,4 @@
-// cEMI and L_Data frames whose fields no parse read: by the accessors of the fields, and as what a record that holds its data would hold.
+// cEMI and L_Data frames whose fields no parse read, by the accessors of the fields.
 use crate::variants;
 use address::IndividualAddress;
 use cemi::CEMIFrame;
@@ -121,34 +121,5 @@ fn individual(f: LDataFields) -> usize {
     match f.destination_individual() {
         IndividualAddressAnswer::Address(a) => a.to_u16() as usize + 1,
         IndividualAddressAnswer::None => 0,
-    }
-}
-
-// The refusal that the record holds, 0 for none, then L, kind, sequence, and the data that it holds.
-pub(crate) fn held(args: &[u8]) -> Told {
-    let data = wire::part(args, 4, args.len());
-    let refused = wire::byte_at(args, 0);
-    if refused == 0 {
-        let fields = held_fields(args);
-        return variants::view(views::data_view(data, LDataAnswer::Frame(fields)), data);
-    }
-    let answer = LDataAnswer::Refused(variants::refusal_of(refused));
-    variants::view(views::data_view(data, answer), data)
-}
-
-fn held_fields(args: &[u8]) -> LDataFields {
-    let ctrl1 = ControlField1::from_u8(0x94);
-    let ctrl2 = ControlField2::from_u8(0xE0);
-    let source = IndividualAddress::from_u16(0x1105);
-    let tpci = variants::tpci_of(wire::byte_at(args, 2), wire::byte_at(args, 3));
-    let apci = variants::apci_of(0, 0);
-    LDataFields {
-        ctrl1,
-        ctrl2,
-        source,
-        destination_raw: 0x0803,
-        npdu_length: wire::byte_at(args, 1),
-        tpci,
-        apci,
     }
 }

@@ -3,9 +3,7 @@ use constants::CEMIMessageCode;
 use constants::ServiceType;
 use pci::Apci;
 use pci::Tpci;
-use replay::Told;
 use wire::Refusal;
-use wire::View;
 
 pub(crate) fn service(service: ServiceType) -> usize {
     match service {
@@ -142,12 +140,4 @@ pub(crate) fn refusal_of(number: u8) -> Refusal {
         12 => Refusal::NotForTunnels,
         _ => Refusal::FieldOutOfRange,
     }
-}
-
-// Where a part stands, and its remainder.
-pub(crate) fn view(view: View, data: &[u8]) -> Told {
-    let rest = replay::remainder(wire::part(data, view.start, view.end));
-    let mut t = replay::few(3, [view.start, view.end, rest, 0]);
-    t.number = view.number;
-    t
 }
