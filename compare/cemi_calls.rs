@@ -1,13 +1,17 @@
 // The compared calls of cemi.rs, of the stand-in's codes and of 01's L_Data builder; their rows
 // are in calls.rs.
 
-use crate::calls::{handed_out, place, remainder, said, u16_at, Said};
+use crate::calls::{handed_out, said, u16_at, Said};
 use crate::error::KnxError;
 use crate::ldata_builder::LDataBuilder;
 use crate::protocol::cemi::{
     extract_6bit_value, Apci, CEMIFrame, ControlField1, ControlField2, LDataFrame, Tpci,
 };
 use crate::protocol::constants::{CEMIMessageCode, Priority};
+use crate::variants::{
+    apci_number, message_code_number, message_code_of, priority_number, priority_of, tpci_numbers,
+    tpci_of,
+};
 
 fn only(value: u8) -> Said {
     Some(Ok(vec![value.into()]))
@@ -18,23 +22,35 @@ fn only(value: u8) -> Said {
 pub fn message_code_from(args: &[u8], _: &mut [u8]) -> Said {
     let code = CEMIMessageCode::from_u8(*args.first()?);
     let known = code.ok_or_else(KnxError::invalid_message_code);
-    said(known.map(|code| vec![code.to_u8().into()]))
+    said(known.map(|code| message_code_values(code).into()))
+}
+
+/// The variant's number, and its code.
+fn message_code_values(code: CEMIMessageCode) -> [usize; 2] {
+    [message_code_number(code), code.to_u8().into()]
 }
 
 pub fn priority_from(args: &[u8], _: &mut [u8]) -> Said {
-    only(Priority::from_u8(*args.first()?).to_u8())
+    Some(Ok(priority_values(Priority::from_u8(*args.first()?)).into()))
+}
+
+/// The variant's number, and its two bits.
+fn priority_values(priority: Priority) -> [usize; 2] {
+    [priority_number(priority), priority.to_u8().into()]
 }
 
 // Control fields
 
 pub fn control1_read(args: &[u8], _: &mut [u8]) -> Said {
     let field = ControlField1::from(*args.first()?);
+    let [priority, bits] = priority_values(field.priority());
     Some(Ok(vec![
         field.raw().into(),
         field.is_standard_frame().into(),
         field.do_not_repeat().into(),
         field.is_broadcast().into(),
-        field.priority().to_u8().into(),
+        priority,
+        bits,
         field.ack_requested().into(),
         field.has_error().into(),
     ]))
@@ -42,7 +58,7 @@ pub fn control1_read(args: &[u8], _: &mut [u8]) -> Said {
 
 pub fn control1_new(args: &[u8], _: &mut [u8]) -> Said {
     let flag = |at: usize| args.get(at).map(|&byte| byte != 0);
-    let priority = Priority::from_u8(*args.get(3)?);
+    let priority = priority_of(*args.get(3)?)?;
     let field = ControlField1::new(flag(0)?, flag(1)?, flag(2)?, priority, flag(4)?, flag(5)?);
     only(field.into())
 }
@@ -71,44 +87,23 @@ pub fn control2_default(_: &[u8], _: &mut [u8]) -> Said {
 
 // TPCI and APCI
 
-/// The kind's number, and the sequence, 0 where the packet has none.
-fn tpci_values(tpci: Tpci) -> [usize; 2] {
-    match tpci {
-        Tpci::UnnumberedData => [0, 0],
-        Tpci::NumberedData { sequence } => [1, sequence.into()],
-        Tpci::UnnumberedControl => [2, 0],
-        Tpci::NumberedControl { sequence } => [3, sequence.into()],
-    }
-}
-
-/// The sequence of an unnumbered packet is ignored: it has none.
-fn tpci_of(kind: u8, sequence: u8) -> Option<Tpci> {
-    match kind {
-        0 => Some(Tpci::UnnumberedData),
-        1 => Some(Tpci::NumberedData { sequence }),
-        2 => Some(Tpci::UnnumberedControl),
-        3 => Some(Tpci::NumberedControl { sequence }),
-        _ => None,
-    }
-}
-
 pub fn tpci_from(args: &[u8], _: &mut [u8]) -> Said {
     let tpci = Tpci::from_byte(*args.first()?);
-    let [kind, sequence] = tpci_values(tpci);
+    let [kind, sequence] = tpci_numbers(tpci);
     Some(Ok(vec![kind, sequence, tpci.is_data().into()]))
 }
 
-/// The code, and whether the service has no name.
-fn apci_values(apci: Apci) -> Vec<usize> {
-    vec![apci.to_u16().into(), matches!(apci, Apci::Unknown(_)).into()]
+/// The variant's number, and its code.
+fn apci_values(apci: Apci) -> [usize; 2] {
+    [apci_number(apci), apci.to_u16().into()]
 }
 
 pub fn apci_from(args: &[u8], _: &mut [u8]) -> Said {
-    Some(Ok(apci_values(Apci::from_bytes(*args.first()?, *args.get(1)?))))
+    Some(Ok(apci_values(Apci::from_bytes(*args.first()?, *args.get(1)?)).into()))
 }
 
 pub fn apci_unknown(args: &[u8], _: &mut [u8]) -> Said {
-    Some(Ok(apci_values(Apci::Unknown(u16_at(args, 0)?))))
+    Some(Ok(apci_values(Apci::Unknown(u16_at(args, 0)?)).into()))
 }
 
 pub fn six_bits(args: &[u8], _: &mut [u8]) -> Said {
@@ -117,7 +112,7 @@ pub fn six_bits(args: &[u8], _: &mut [u8]) -> Said {
 
 // LDataFrame
 
-/// The nine fields, then the place of the data in the whole input.
+/// The nine values of the fields, then where the data stands in the whole input, and its remainder.
 fn ldata_values(frame: &LDataFrame, whole: &[u8]) -> Vec<usize> {
     let mut values = vec![
         frame.ctrl1.raw().into(),
@@ -126,9 +121,9 @@ fn ldata_values(frame: &LDataFrame, whole: &[u8]) -> Vec<usize> {
         frame.destination_raw.into(),
         frame.npdu_length.into(),
     ];
-    values.extend(tpci_values(frame.tpci));
+    values.extend(tpci_numbers(frame.tpci));
     values.extend(apci_values(frame.apci));
-    values.extend(place(frame.data, whole));
+    values.extend(handed_out(frame.data, whole));
     values
 }
 
@@ -142,11 +137,15 @@ pub fn ldata_parse(args: &[u8], _: &mut [u8]) -> Said {
         let mut values = ldata_values(&frame, args);
         values.push(address_value(frame.destination_group().map(|group| group.raw())));
         values.push(address_value(frame.destination_individual().map(|device| device.raw())));
-        values.push(frame.is_group_write().into());
-        values.push(frame.is_group_read().into());
-        values.push(frame.is_group_response().into());
+        values.push(asks(&frame));
         values
     }))
+}
+
+/// What a frame asks of a group: 1 for a write, 2 for a read, 4 for a response, added up.
+fn asks(frame: &LDataFrame) -> usize {
+    let flags = [frame.is_group_write(), frame.is_group_read(), frame.is_group_response()];
+    flags.iter().rev().fold(0, |sum, &flag| 2 * sum + usize::from(flag))
 }
 
 /// The builder's answer; what it wrote is confirmed by the Rust's parse.
@@ -171,11 +170,8 @@ pub fn ldata_build(args: &[u8], buf: &mut [u8]) -> Said {
 
 pub fn frame_parse(args: &[u8], _: &mut [u8]) -> Said {
     said(CEMIFrame::parse(args).map(|frame| {
-        vec![
-            frame.message_code().to_u8().into(),
-            frame.additional_info_length().into(),
-            frame.is_ldata().into(),
-        ]
+        let [number, code] = message_code_values(frame.message_code());
+        vec![number, code, frame.additional_info_length().into(), frame.is_ldata().into()]
     }))
 }
 
@@ -183,25 +179,17 @@ pub fn frame_service_info(args: &[u8], _: &mut [u8]) -> Said {
     said(CEMIFrame::parse(args).and_then(|frame| Ok(handed_out(frame.service_info()?, args).into())))
 }
 
-/// What call 40 tells of the fields and the data, and the data's remainder.
-fn inside_values(frame: &CEMIFrame, whole: &[u8]) -> Result<Vec<usize>, KnxError> {
-    let ldata = frame.as_ldata()?;
-    let mut values = ldata_values(&ldata, whole);
-    values.push(remainder(ldata.data));
-    Ok(values)
-}
-
 pub fn frame_as_ldata(args: &[u8], _: &mut [u8]) -> Said {
-    said(CEMIFrame::parse(args).and_then(|frame| inside_values(&frame, args)))
+    said(CEMIFrame::parse(args).and_then(|frame| Ok(ldata_values(&frame.as_ldata()?, args))))
 }
 
 /// The frame's public code is set by hand before it is read.
 pub fn frame_as_ldata_by(args: &[u8], _: &mut [u8]) -> Said {
     let (&code, input) = args.split_first()?;
-    let code = CEMIMessageCode::from_u8(code)?;
+    let code = message_code_of(code)?;
     said(CEMIFrame::parse(input).and_then(|mut frame| {
         frame.message_code = code;
-        let mut values = inside_values(&frame, input)?;
+        let mut values = ldata_values(&frame.as_ldata()?, input);
         values.push(frame.is_ldata().into());
         Ok(values)
     }))

@@ -1,5 +1,5 @@
-// The input records of the tunnel table, in sequences: each starts by setting the table, so none
-// depends on the records before it. The helpers of all calls are in generate.rs.
+// The input records of the tunnel table, in sequences: each but the first starts by setting the
+// table, so none depends on the records before it. The helpers of all calls are in generate.rs.
 
 use crate::generate::{damage, filler, header, inputs_as_frames, Emit, Rng, Size};
 use crate::tunnel_table::Table;
@@ -95,6 +95,7 @@ fn each_alone(places: &[Place], steps: &[Step], emit: Emit) {
 // Systematic sequences
 
 pub fn systematic(size: Size, emit: Emit) {
+    from_the_start(emit);
     opening(emit);
     reopening(emit);
     timeouts(emit);
@@ -113,6 +114,13 @@ pub fn systematic(size: Size, emit: Emit) {
         long_sends(emit);
         all_frames(size, emit);
     }
+}
+
+/// The first calls of all find the table empty: no channel is open, eight ids open, a ninth does not.
+fn from_the_start(emit: Emit) {
+    let none = [close(0), timeout(ID), send(ID, &filler(3), 13), request(0, 0, 11), ack(0, 0, 0)];
+    let steps = none.into_iter().chain(IDS.map(open)).chain([open(NINTH)]);
+    steps.for_each(|step| emit_step(&step, emit));
 }
 
 /// Eight channels with different numbers, some at the ends, and all ways of waiting.

@@ -3,7 +3,7 @@ use Prim.Native.Nat.{ℕ, _+_}
 use mathlib.Core.Path.{_≡_, refl, _∙_}
 use mathlib.Core.List.{List, [], _∷_, _++_}
 use lib.ListN.{length}
-use Rattle.wire.specs.Told.{done, viewed, verdict}
+use Rattle.wire.specs.Told.{done, refused, viewed, verdict}
 use Rattle.wire.specs.Layout.{get}
 use Rattle.wire.specs.Written.{WritePromise, room}
 use Rattle.wire.specs.Written as Written
@@ -351,7 +351,7 @@ pub table-heard : (t : Table) (h : Heard) (out : List ℕ) (r : Called) (after :
     → Zeros (Table.told r) × (after ≡ out) × (r .table ≡ t)
 table-heard = Compiled.heard-refusing
 
--- ---- views: a refused record holds nothing, and hands out nothing
+-- ---- views: what is refused by its parse holds nothing; a record that is refused, by its answer or by the checks that are repeated, hands out nothing, and its view has the number
 
 -- views::KnxnetIpFrame::parse
 pub knxnet-ip-parse : (s : List ℕ) (r : KnxnetIpFrame) → KnxnetIp.ParsePromise s r → Refusing (Frame.told (r .answer))
@@ -364,6 +364,16 @@ knxnet-ip-holds = KnxnetIpLaws.holds-none
 pub knxnet-ip-body : (f : KnxnetIpFrame) (e : Refusal) (r : List ℕ) → f .answer ≡ FA.Refused e → KnxnetIp.BodyPromise f r → r ≡ []
 knxnet-ip-body = KnxnetIpLaws.body-none
 
+pub knxnet-ip-body-part : (f : KnxnetIpFrame) (v : View) (r : List ℕ) → KnxnetIp.BodyViewPromise (now (f .«data»)) (f .answer) v → KnxnetIp.BodyPromise f r → (v .number ≡ 0 → ⊥) → r ≡ []
+knxnet-ip-body-part = KnxnetIpLaws.body-refused
+
+-- views::body_view
+pub knxnet-ip-body-view : (s : List ℕ) (a : FrameAnswer) (r : View) → KnxnetIp.BodyViewPromise s a r → Refusing (Parts.told r)
+knxnet-ip-body-view = KnxnetIpLaws.view-refusing
+
+pub knxnet-ip-body-number : (s : List ℕ) (a : FrameAnswer) (e : Refusal) (r : View) → a ≡ FA.Refused e → KnxnetIp.BodyViewPromise s a r → Parts.told r ≡ refused 0 e
+knxnet-ip-body-number = KnxnetIpLaws.view-none
+
 -- views::body_in
 pub knxnet-ip-body-in : (s r : List ℕ) (e : Refusal) → verdict (Frame.checks (length s) (get Header.fields 0 s)) ≡ Refuse e → KnxnetIp.BodyInPromise s r → r ≡ []
 knxnet-ip-body-in s r e v q = q ∙ shown-refused (Frame.checks (length s) (get Header.fields 0 s)) (viewed 6 (Header.totalIn (get Header.fields 0 s))) e s v
@@ -374,6 +384,20 @@ ldata-frame-parse s r p = ldata-parse s (r .answer) (p .1)
 
 pub ldata-frame-holds : (s : List ℕ) (r : LDataFrame) (e : Refusal) → LDataView.ParsePromise s r → r .answer ≡ LA.Refused e → now (r .«data») ≡ []
 ldata-frame-holds = LDataViewLaws.holds-none
+
+-- views::LDataFrame::data
+pub ldata-frame-data : (f : LDataFrame) (e : Refusal) (r : List ℕ) → f .answer ≡ LA.Refused e → LDataView.DataPromise f r → r ≡ []
+ldata-frame-data = LDataViewLaws.data-none
+
+pub ldata-frame-data-part : (f : LDataFrame) (v : View) (r : List ℕ) → LDataView.DataViewPromise (now (f .«data»)) (f .answer) v → LDataView.DataPromise f r → (v .number ≡ 0 → ⊥) → r ≡ []
+ldata-frame-data-part = LDataViewLaws.data-refused
+
+-- views::data_view
+pub ldata-frame-data-view : (s : List ℕ) (a : LDataAnswer) (r : View) → LDataView.DataViewPromise s a r → Refusing (Parts.told r)
+ldata-frame-data-view = LDataViewLaws.view-refusing
+
+pub ldata-frame-data-number : (s : List ℕ) (a : LDataAnswer) (e : Refusal) (r : View) → a ≡ LA.Refused e → LDataView.DataViewPromise s a r → Parts.told r ≡ refused 0 e
+ldata-frame-data-number = LDataViewLaws.view-none
 
 -- views::data_in
 pub ldata-frame-data-in : (s r : List ℕ) (e : Refusal) → LData.ParsePromise s (LA.Refused e) → LDataView.DataInPromise s r → r ≡ []
@@ -549,7 +573,6 @@ host-table-calls = CalledLaws.call-refusing
 -- kip_inspect::read_on
 -- kip_inspect::to_front
 -- inspect_io::run
--- views::LDataFrame::data
 -- image::unpack
 -- digits::places
 -- digits::put_digits

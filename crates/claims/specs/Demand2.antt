@@ -50,6 +50,7 @@ use Rattle.views.specs.KnxnetIpLaws as KnxnetIpLaws
 use Rattle.views.specs.LData as LDataView
 use Rattle.views.specs.LDataLaws as LDataViewLaws
 use Rattle.views.specs.declared.knxnet_ip.KnxnetIpFrame.{KnxnetIpFrame}
+use Rattle.views.specs.declared.l_data.LDataFrame.{LDataFrame}
 use Rattle.host.specs.Reading as Reading
 use Rattle.host.specs.ReadingLaws as ReadingLaws
 use Rattle.host.specs.CemiLData as CemiLData
@@ -365,6 +366,9 @@ views-body = KnxnetIpLaws.body-in
 
 pub views-data : (s : List ℕ) (f : LDataFields) → LData.ParsePromise s (L.Frame f) → shown s (LData.dataBy01 crateCount f s) ≡ LDataView.dataIn s
 views-data = LDataViewLaws.fields-data
+
+pub views-held-data : (s : List ℕ) (f : LDataFrame) (r : List ℕ) → LDataView.ParsePromise s f → LDataView.DataPromise f r → LDataView.DataInPromise s r
+views-held-data = LDataViewLaws.data-in
 
 -- the view of a frame is the one that `FrameFields::body` answers
 pub border-body : (s : List ℕ) (r : KnxFrame) (f : FrameFields) (v : View) → Reading.FramePromise s r → Frame.ParsePromise s (F.Frame f) → Frame.BodyPromise f s v

@@ -3,7 +3,7 @@ use Prim.Native.Nat.{ℕ}
 use mathlib.Core.Path.{_≡_, refl}
 use mathlib.Core.List.{List, [], _∷_, _++_}
 use lib.ListN.{replicate}
-use Rattle.wire.specs.Told.{done, viewed}
+use Rattle.wire.specs.Told.{Told, done, viewed}
 use Rattle.wire.specs.Written.{tells}
 use Rattle.wire.specs.declared.refusals.Refusal.the-variants.{InvalidMessageCode}
 use Rattle.constants.specs.declared.ServiceType.the-variants.{TunnellingAck}
@@ -14,6 +14,8 @@ use Rattle.pci.specs.declared.transport.Tpci.the-variants.{UnnumberedData, Numb
 use Rattle.ldata.specs.Count.{crateCount}
 use Rattle.ldata.specs.LData as LData
 use Rattle.ldata.specs.Builder as LDataBuilder
+use Rattle.pci.specs.declared.application.Apci.the-variants.{GroupValueWrite}
+use Rattle.views.specs.LData as LDataView
 use Rattle.cemi.specs.Cemi as Cemi
 use Rattle.cemi.specs.declared.InfoLengthAnswer.the-variants as I
 use Rattle.header.specs.Header as Header
@@ -35,6 +37,19 @@ built01 n m = tells (Builder.checks n m) (replicate n 0) .number
 -- an acknowledgement's eleven bytes with three more behind them
 abbrev trailed : List ℕ
 trailed = 0x06 ∷ 0x10 ∷ 0x04 ∷ 0x21 ∷ 0x00 ∷ 0x0B ∷ 0x04 ∷ 0x15 ∷ 0x07 ∷ 0x00 ∷ 0x00 ∷ 0xAA ∷ 0xBB ∷ 0xCC ∷ []
+
+-- where the data stands in what a record that no parse made holds
+abbrev heldAs : Tpci → ℕ → List ℕ → Told
+heldAs t l s =
+    LDataView.heldBy01 (record {
+      ctrl1 = record { raw = 0x94 };
+      ctrl2 = record { raw = 0xE0 };
+      source = record { 0 = 0x1105 };
+      «destination_raw» = 0x0803;
+      «npdu_length» = l;
+      tpci = t;
+      apci = GroupValueWrite;
+    }) s
 
 -- what the L_Data builder answers for a packet, a six-bit number, n bytes of data and a buffer of m
 abbrev builtLData : Tpci → ℕ → ℕ → ℕ → ℕ → ℕ
@@ -118,6 +133,12 @@ pub record Order : Type 0 where
   pub control-L1 : asLData (nineBytes 1 0x80) ≡ 0
   pub L255-262 : asLData (nineBytes 255 0x00 ++ replicate 253 0) ≡ 0
   pub L255-261 : asLData (nineBytes 255 0x00 ++ replicate 252 0) ≡ 2
+  -- a record that holds its data: up to the end that L says, and 2 where that is not held, or lies before the start
+  pub held-all : heldAs UnnumberedData 3 (0x2A ∷ []) ≡ viewed 0 1
+  pub held-more : heldAs UnnumberedData 3 (0x2A ∷ 0x2B ∷ []) ≡ viewed 0 1
+  pub held-less : heldAs UnnumberedData 4 (0x2A ∷ []) .number ≡ 2
+  pub held-L1 : heldAs UnnumberedData 1 (0x2A ∷ []) .number ≡ 2
+  pub held-control-L1 : heldAs UnnumberedControl 1 [] ≡ viewed 0 0
   -- the L_Data builder: 13 four times, then 5, then 1
   pub control-13 : builtLData UnnumberedControl 0x080 0 254 0 ≡ 13
   pub sequence-16 : builtLData (NumberedData 16) 0x080 0 254 0 ≡ 13
@@ -175,6 +196,11 @@ orders = record {
   control-L1 = refl;
   L255-262 = refl;
   L255-261 = refl;
+  held-all = refl;
+  held-more = refl;
+  held-less = refl;
+  held-L1 = refl;
+  held-control-L1 = refl;
   control-13 = refl;
   sequence-16 = refl;
   code-above = refl;

@@ -774,6 +774,10 @@ knxnet-ip-parse = KnxnetIpLaws.parse-one
 pub knxnet-ip-body : One KnxnetIp.BodyPromise
 knxnet-ip-body f r q = same
 
+-- views::body_view
+pub knxnet-ip-body-view : One₂ KnxnetIp.BodyViewPromise
+knxnet-ip-body-view s a r q x y = PartLaws.told-one r q (same x y)
+
 -- views::body_in
 pub knxnet-ip-body-in : One KnxnetIp.BodyInPromise
 knxnet-ip-body-in s r q = same
@@ -785,6 +789,10 @@ ldata-frame-parse = LDataViewLaws.parse-one
 -- views::LDataFrame::data
 pub ldata-frame-data : One LDataView.DataPromise
 ldata-frame-data f r q = same
+
+-- views::data_view
+pub ldata-frame-data-view : One₂ LDataView.DataViewPromise
+ldata-frame-data-view s a r q x y = PartLaws.told-one r q (same x y)
 
 -- views::data_in
 pub ldata-frame-data-in : One LDataView.DataInPromise

@@ -1,4 +1,5 @@
 // The calls of cemi.rs on codes, control fields, TPCI and APCI, 28 to 39.
+use crate::variants;
 use constants::CEMIMessageCode;
 use constants::CEMIMessageCodeAnswer;
 use constants::Priority;
@@ -38,19 +39,24 @@ fn only(value: u8) -> Told {
 
 fn message_code_from(args: &[u8]) -> Told {
     match CEMIMessageCode::from_u8(wire::byte_at(args, 0)) {
-        CEMIMessageCodeAnswer::Code(m) => only(m.to_u8()),
-        CEMIMessageCodeAnswer::Refused(why) => replay::refused(why, 1),
+        CEMIMessageCodeAnswer::Code(m) => replay::few(
+            2,
+            [variants::message_code(m), m.to_u8() as usize, 0, 0],
+        ),
+        CEMIMessageCodeAnswer::Refused(why) => replay::refused(why, 2),
     }
 }
 
 fn priority_from(args: &[u8]) -> Told {
-    only(Priority::from_u8(wire::byte_at(args, 0)).to_u8())
+    let p = Priority::from_u8(wire::byte_at(args, 0));
+    replay::few(2, [variants::priority(p), p.to_u8() as usize, 0, 0])
 }
 
 fn control1_read(args: &[u8]) -> Told {
     let c = ControlField1::from_u8(wire::byte_at(args, 0));
+    let p = c.priority();
     let mut t = replay::few(
-        7,
+        8,
         [
             c.raw() as usize,
             replay::flag(c.is_standard_frame()),
@@ -58,9 +64,10 @@ fn control1_read(args: &[u8]) -> Told {
             replay::flag(c.is_broadcast()),
         ],
     );
-    t.values[4] = c.priority().to_u8() as usize;
-    t.values[5] = replay::flag(c.ack_requested());
-    t.values[6] = replay::flag(c.has_error());
+    t.values[4] = variants::priority(p);
+    t.values[5] = p.to_u8() as usize;
+    t.values[6] = replay::flag(c.ack_requested());
+    t.values[7] = replay::flag(c.has_error());
     t
 }
 
@@ -69,7 +76,7 @@ fn flag_at(args: &[u8], at: usize) -> bool {
 }
 
 fn control1_new(args: &[u8]) -> Told {
-    let priority = Priority::from_u8(wire::byte_at(args, 3));
+    let priority = variants::priority_of(wire::byte_at(args, 3));
     let c = ControlField1::new(
         flag_at(args, 0),
         flag_at(args, 1),
@@ -121,13 +128,8 @@ fn tpci_from(args: &[u8]) -> Told {
     }
 }
 
-// The code, and whether the service has no name.
 fn apci(a: Apci) -> Told {
-    let code = a.to_u16() as usize;
-    if let Apci::Unknown(_) = a {
-        return replay::few(2, [code, 1, 0, 0]);
-    }
-    replay::few(2, [code, 0, 0, 0])
+    replay::few(2, [variants::apci(a), a.to_u16() as usize, 0, 0])
 }
 
 fn apci_from(args: &[u8]) -> Told {

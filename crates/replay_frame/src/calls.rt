@@ -1,4 +1,5 @@
 // The calls of frame.rs on headers and frames, 1 to 8. Argument bytes that are missing count as 0; another call gets a line that no call has.
+use crate::services;
 use constants::ServiceAnswer;
 use constants::ServiceType;
 use frame::FrameAnswer;
@@ -24,43 +25,44 @@ pub(crate) fn answer(call: u8, args: &[u8], buf: &mut [u8]) -> Told {
 
 fn service_from(args: &[u8]) -> Told {
     match ServiceType::from_u16(wire::word_at(args, 0)) {
-        ServiceAnswer::Service(s) => replay::few(1, [s.to_u16() as usize, 0, 0, 0]),
-        ServiceAnswer::Refused(why) => replay::refused(why, 1),
+        ServiceAnswer::Service(s) => replay::few(
+            2,
+            [services::number(s), s.to_u16() as usize, 0, 0],
+        ),
+        ServiceAnswer::Refused(why) => replay::refused(why, 2),
     }
 }
 
-// The service that a call is handed; a record names a known one.
 fn service_at(args: &[u8], at: usize) -> ServiceType {
-    match ServiceType::from_u16(wire::word_at(args, at)) {
-        ServiceAnswer::Service(s) => s,
-        ServiceAnswer::Refused(_) => ServiceType::ConnectRequest,
-    }
+    services::of(wire::byte_at(args, at))
 }
 
 fn header(h: KnxnetIpHeader, count: usize) -> Told {
     let s = h.service_type;
-    replay::few(
+    let mut t = replay::few(
         count,
         [
             h.header_length as usize,
             h.protocol_version as usize,
+            services::number(s),
             s.to_u16() as usize,
-            h.total_length as usize,
         ],
-    )
+    );
+    t.values[4] = h.total_length as usize;
+    t
 }
 
 fn header_answer(a: HeaderAnswer) -> Told {
     match a {
-        HeaderAnswer::Header(h) => header(h, 4),
-        HeaderAnswer::Refused(why) => replay::refused(why, 4),
+        HeaderAnswer::Header(h) => header(h, 5),
+        HeaderAnswer::Refused(why) => replay::refused(why, 5),
     }
 }
 
 fn header_new(args: &[u8]) -> Told {
     header_answer(KnxnetIpHeader::new(
         service_at(args, 0),
-        replay::number24(wire::part(args, 2, args.len())),
+        replay::number24(wire::part(args, 1, args.len())),
     ))
 }
 
@@ -74,7 +76,7 @@ fn header_at(args: &[u8]) -> KnxnetIpHeader {
         header_length: wire::byte_at(args, 0),
         protocol_version: wire::byte_at(args, 1),
         service_type,
-        total_length: wire::word_at(args, 4),
+        total_length: wire::word_at(args, 3),
     }
 }
 
@@ -89,34 +91,42 @@ fn header_body_length(args: &[u8]) -> Told {
 fn frame_parse(args: &[u8]) -> Told {
     match FrameFields::parse(args) {
         FrameAnswer::Frame(f) => frame(f, args),
-        FrameAnswer::Refused(why) => replay::refused(why, 11),
+        FrameAnswer::Refused(why) => replay::refused(why, 13),
     }
 }
 
-// What the accessors tell of a frame that was parsed, and the parts that they hand out.
+// What the accessors tell of a frame that was parsed, and the parts that are handed out: the body by the record that holds its slice.
 fn frame(f: FrameFields, args: &[u8]) -> Told {
     let mut t = frame_header(f.header(args));
-    let s = service_from_answer(f.service_type(args));
+    let service = f.service_type(args);
     let body = f.body(args);
     let data = f.data(args);
-    t.values[4] = s;
-    t.values[5] = body.start;
-    t.values[6] = body.end;
-    t.values[7] = replay::remainder(f.body_part(args));
-    t.values[8] = data.start;
-    t.values[9] = data.end;
-    t.values[10] = replay::remainder(f.data_part(args));
+    t.values[5] = number_in(service);
+    t.values[6] = code_in(service);
+    t.values[7] = body.start;
+    t.values[8] = body.end;
+    t.values[9] = replay::remainder(views::body_in(args));
+    t.values[10] = data.start;
+    t.values[11] = data.end;
+    t.values[12] = replay::remainder(f.data_part(args));
     t
 }
 
 fn frame_header(a: HeaderAnswer) -> Told {
     match a {
-        HeaderAnswer::Header(h) => header(h, 11),
-        HeaderAnswer::Refused(why) => replay::refused(why, 11),
+        HeaderAnswer::Header(h) => header(h, 13),
+        HeaderAnswer::Refused(why) => replay::refused(why, 13),
     }
 }
 
-fn service_from_answer(a: ServiceAnswer) -> usize {
+fn number_in(a: ServiceAnswer) -> usize {
+    match a {
+        ServiceAnswer::Service(s) => services::number(s),
+        ServiceAnswer::Refused(_) => 0,
+    }
+}
+
+fn code_in(a: ServiceAnswer) -> usize {
     match a {
         ServiceAnswer::Service(s) => s.to_u16() as usize,
         ServiceAnswer::Refused(_) => 0,
@@ -124,12 +134,12 @@ fn service_from_answer(a: ServiceAnswer) -> usize {
 }
 
 fn frame_build(args: &[u8], buf: &mut [u8]) -> Told {
-    let body = wire::part(args, 2, args.len());
+    let body = wire::part(args, 1, args.len());
     replay::written(FrameBuilder::new(service_at(args, 0)).build(body, buf))
 }
 
 fn frame_size(args: &[u8]) -> Told {
-    let body = wire::part(args, 2, args.len());
+    let body = wire::part(args, 1, args.len());
     replay::few(
         1,
         [FrameBuilder::new(service_at(args, 0)).size(body), 0, 0, 0],

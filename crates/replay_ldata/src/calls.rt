@@ -1,10 +1,9 @@
 // The calls of cemi.rs on L_Data and cEMI frames, 40 to 44, and the L_Data builder, 45.
+use crate::variants;
 use address::IndividualAddress;
 use cemi::CEMIAnswer;
 use cemi::CEMIFrame;
 use cemi::InfoLengthAnswer;
-use constants::CEMIMessageCode;
-use constants::CEMIMessageCodeAnswer;
 use control::ControlField1;
 use control::ControlField2;
 use ldata::GroupAddressAnswer;
@@ -12,7 +11,6 @@ use ldata::IndividualAddressAnswer;
 use ldata::LDataAnswer;
 use ldata::LDataBuilder;
 use ldata::LDataFields;
-use pci::Tpci;
 use replay::Told;
 
 pub(crate) fn answer(call: u8, args: &[u8], buf: &mut [u8]) -> Told {
@@ -27,27 +25,26 @@ pub(crate) fn answer(call: u8, args: &[u8], buf: &mut [u8]) -> Told {
     }
 }
 
-// The nine values of the fields, and where the data stands.
-fn fields(f: LDataFields, start: usize, end: usize) -> Told {
+// The nine values of the fields, where the data stands, and its remainder.
+fn fields(f: LDataFields, start: usize, end: usize, rest: usize) -> Told {
     let tpci = f.tpci;
     let apci = f.apci;
-    let code = apci.to_u16();
     Told {
         number: 0,
-        count: 11,
+        count: 12,
         values: [
             f.ctrl1.raw() as usize,
             f.ctrl2.raw() as usize,
             f.source.to_u16() as usize,
             f.destination_raw as usize,
             f.npdu_length as usize,
-            (tpci.to_byte() / 64) as usize,
-            tpci.sequence() as usize,
-            code as usize,
-            replay::flag(!apci.is_named(code)),
+            variants::kind(tpci),
+            variants::sequence(tpci),
+            variants::apci(apci),
+            apci.to_u16() as usize,
             start,
             end,
-            0,
+            rest,
             0,
             0,
             0,
@@ -60,20 +57,27 @@ fn fields(f: LDataFields, start: usize, end: usize) -> Told {
 fn ldata_parse(args: &[u8]) -> Told {
     match LDataFields::parse(args) {
         LDataAnswer::Frame(f) => ldata(f, args),
-        LDataAnswer::Refused(why) => replay::refused(why, 16),
+        LDataAnswer::Refused(why) => replay::refused(why, 15),
     }
 }
 
+// The data's bytes come by the record that holds them.
 fn ldata(f: LDataFields, args: &[u8]) -> Told {
     let view = f.data(args);
-    let mut t = fields(f, view.start, view.end);
-    t.count = 16;
-    t.values[11] = group(f);
-    t.values[12] = individual(f);
-    t.values[13] = replay::flag(f.is_group_write());
-    t.values[14] = replay::flag(f.is_group_read());
-    t.values[15] = replay::flag(f.is_group_response());
+    let rest = replay::remainder(views::data_in(args));
+    let mut t = fields(f, view.start, view.end, rest);
+    t.count = 15;
+    t.values[12] = group(f);
+    t.values[13] = individual(f);
+    t.values[14] = asks(f);
     t
+}
+
+// What a frame asks of a group: 1 for a write, 2 for a read, 4 for a response, added up.
+fn asks(f: LDataFields) -> usize {
+    let read = if f.is_group_read() { 2 } else { 0 };
+    let response = if f.is_group_response() { 4 } else { 0 };
+    replay::flag(f.is_group_write()) | read | response
 }
 
 // An address is shown as one more than its number, none as 0.
@@ -94,7 +98,7 @@ fn individual(f: LDataFields) -> usize {
 fn cemi_parse(args: &[u8]) -> Told {
     match CEMIFrame::parse(args) {
         CEMIAnswer::Frame(f) => cemi(f, args),
-        CEMIAnswer::Refused(why) => replay::refused(why, 3),
+        CEMIAnswer::Refused(why) => replay::refused(why, 4),
     }
 }
 
@@ -102,15 +106,15 @@ fn cemi(f: CEMIFrame, args: &[u8]) -> Told {
     let code = f.message_code();
     match f.additional_info_length(args) {
         InfoLengthAnswer::Length(n) => replay::few(
-            3,
+            4,
             [
+                variants::message_code(code),
                 code.to_u8() as usize,
                 n as usize,
                 replay::flag(f.is_ldata()),
-                0,
             ],
         ),
-        InfoLengthAnswer::Refused(why) => replay::refused(why, 3),
+        InfoLengthAnswer::Refused(why) => replay::refused(why, 4),
     }
 }
 
@@ -143,14 +147,12 @@ fn inside(f: CEMIFrame, args: &[u8], count: usize) -> Told {
             let info = f.service_info(args);
             let part = f.service_info_part(args);
             let view = l.data(part);
-            let mut t = fields(
+            fields(
                 l,
                 moved(info.start, view.start),
                 moved(info.start, view.end),
-            );
-            t.count = 12;
-            t.values[11] = replay::remainder(l.data_part(part));
-            t
+                replay::remainder(l.data_part(part)),
+            )
         }
         LDataAnswer::Refused(why) => replay::refused(why, count),
     }
@@ -166,16 +168,18 @@ fn moved(start: usize, at: usize) -> usize {
     0
 }
 
-// The record's code is set by hand; a code that is not known leaves the frame's own. Whether it is L_Data stands behind the twelve values.
+// The record's code is set by hand. Whether it is L_Data stands behind the twelve values.
 fn as_ldata_set(args: &[u8]) -> Told {
     let whole = wire::part(args, 1, args.len());
     match CEMIFrame::parse(whole) {
-        CEMIAnswer::Frame(f) => set(with_code(f, wire::byte_at(args, 0)), whole),
+        CEMIAnswer::Frame(_) => set(wire::byte_at(args, 0), whole),
         CEMIAnswer::Refused(why) => replay::refused(why, 13),
     }
 }
 
-fn set(f: CEMIFrame, whole: &[u8]) -> Told {
+fn set(number: u8, whole: &[u8]) -> Told {
+    let message_code = variants::message_code_of(number);
+    let f = CEMIFrame { message_code };
     let mut t = inside(f, whole, 13);
     if t.number == 0 {
         t.count = 13;
@@ -184,27 +188,11 @@ fn set(f: CEMIFrame, whole: &[u8]) -> Told {
     t
 }
 
-fn with_code(f: CEMIFrame, code: u8) -> CEMIFrame {
-    match CEMIMessageCode::from_u8(code) {
-        CEMIMessageCodeAnswer::Code(message_code) => CEMIFrame { message_code },
-        CEMIMessageCodeAnswer::Refused(_) => f,
-    }
-}
-
-fn tpci_at(kind: u8, sequence: u8) -> Tpci {
-    match kind {
-        0 => Tpci::UnnumberedData,
-        1 => Tpci::NumberedData { sequence },
-        2 => Tpci::UnnumberedControl,
-        _ => Tpci::NumberedControl { sequence },
-    }
-}
-
 fn ldata_build(args: &[u8], buf: &mut [u8]) -> Told {
     let ctrl1 = ControlField1::from_u8(wire::byte_at(args, 0));
     let ctrl2 = ControlField2::from_u8(wire::byte_at(args, 1));
     let source = IndividualAddress::from_u16(wire::word_at(args, 2));
-    let tpci = tpci_at(wire::byte_at(args, 6), wire::byte_at(args, 7));
+    let tpci = variants::tpci_of(wire::byte_at(args, 6), wire::byte_at(args, 7));
     let builder = LDataBuilder {
         ctrl1,
         ctrl2,

@@ -1,11 +1,12 @@
 -- What a record that holds its slice holds: the bytes that were parsed, none where the parse refused. Assumes nothing.
 use Prim.Native.Nat.{ℕ}
 use native.Mathlib.Omega.{arith}
-use mathlib.Core.Path.{_≡_, sym, ap}
+use mathlib.Core.Path.{_≡_, sym, ap, _∙_}
 use mathlib.Core.List.{List, []}
 use Rattle.wire.specs.Told.{Told, refused, Check, verdict, judged}
 use Rattle.wire.specs.ToldLaws.{was-accepted, was-refused}
-use Rattle.wire.specs.Parts.{partOf}
+use Rattle.wire.specs.Parts.{partOf, shown}
+use Rattle.wire.specs.Refusing.{Zeros}
 use Rattle.wire.specs.PartLaws.{part-is}
 use Rattle.wire.specs.declared.refusals.Refusal.{Refusal}
 use Rattle.wire.specs.declared.refusals.Verdict.{Verdict}
@@ -24,3 +25,7 @@ kept-none cs t k e s z q = sym (ap (λ (v : Verdict). kept v s) (was-refused cs 
 
 pub empty-part : (s : List ℕ) → partOf s 0 0 ≡ []
 empty-part s = part-is s 0 0 (omega arith) (omega arith)
+
+-- of a refusal no byte is shown
+pub shows-none : (s : List ℕ) (t : Told) → Zeros t → shown s t ≡ []
+shows-none s t z = ap (λ (a : ℕ). partOf s a (t .end)) (z .start-zero) ∙ ap (partOf s 0) (z .end-zero) ∙ empty-part s

@@ -1,12 +1,14 @@
 -- `KnxnetIpFrame`: the datagram's bytes beside what parsing it answered, over the definitions that the field record's functions promise. Assumes nothing.
 use Prim.Native.Nat.{ℕ}
 use mathlib.Core.Path.{_≡_}
-use mathlib.Core.List.{List, []}
+use mathlib.Core.List.{List}
 use lib.ListN.{length}
 use denote.Ref.{now}
-use Rattle.wire.specs.Told.{viewed, verdict, judged}
+use Rattle.wire.specs.Told.{Told, refused, viewed, verdict, judged}
 use Rattle.wire.specs.Layout.{get}
 use Rattle.wire.specs.Parts.{shown}
+use Rattle.wire.specs.Parts as Parts
+use Rattle.wire.specs.declared.parts.View.{View}
 use Rattle.header.specs.Header.{fields, totalIn}
 use Rattle.frame.specs.Frame as Frame
 use Rattle.frame.specs.declared.fields.FrameAnswer.{FrameAnswer}
@@ -23,10 +25,17 @@ HeldPromise s r = r ≡ heldIn s
 abbrev pub ParsePromise : List ℕ → KnxnetIpFrame → Type 0
 ParsePromise s r = HeldPromise s (now (r .«data»)) × Frame.ParsePromise s (r .answer)
 
--- the body by a record's header, none where the parse refused
+-- where the body stands in the bytes that a record holds: its header's checks are repeated over them; of a refused one the refusal
+abbrev pub viewOf : FrameAnswer → List ℕ → Told
+viewOf (Frame f) s = Frame.bodyBy01 f s
+viewOf (Refused e) s = refused 0 e
+
+abbrev pub BodyViewPromise : List ℕ → FrameAnswer → View → Type 0
+BodyViewPromise s a r = Parts.told r ≡ viewOf a s
+
+-- and the part there
 abbrev pub bodyOf : FrameAnswer → List ℕ → List ℕ
-bodyOf (Frame f) s = shown s (Frame.bodyBy01 f s)
-bodyOf (Refused e) s = []
+bodyOf a s = shown s (viewOf a s)
 
 abbrev pub BodyOfPromise : List ℕ → FrameAnswer → List ℕ → Type 0
 BodyOfPromise s a r = r ≡ bodyOf a s

@@ -1,14 +1,21 @@
 -- `LDataFrame`: the application data beside what parsing the frame answered, over the definitions that the field record's functions promise. Assumes nothing.
-use Prim.Native.Nat.{ℕ}
+use Prim.Native.Nat.{ℕ, _+_, _-_}
 use mathlib.Core.Path.{_≡_}
 use mathlib.Core.List.{List}
+use lib.ListN.{length, drop}
 use denote.Ref.{now}
-use Rattle.wire.specs.Told.{viewed, judged}
+use Rattle.wire.specs.Told.{Told, refused, viewed, Check, judged}
 use Rattle.wire.specs.Layout.{get}
 use Rattle.wire.specs.Parts.{shown}
+use Rattle.wire.specs.Parts as Parts
+use Rattle.wire.specs.declared.parts.View.{View}
+use Rattle.pci.specs.Transport.{isData}
 use Rattle.ldata.specs.Count.{startOf, crateCount}
 use Rattle.ldata.specs.LData.{fields, lengthIn, tpciIn, dataByte}
 use Rattle.ldata.specs.LData as LData
+use Rattle.ldata.specs.declared.fields.LDataFields.{LDataFields}
+use Rattle.ldata.specs.declared.fields.LDataAnswer.{LDataAnswer}
+use Rattle.ldata.specs.declared.fields.LDataAnswer.the-variants.{Frame, Refused}
 use Rattle.views.specs.declared.l_data.LDataFrame.{LDataFrame}
 
 -- the data of an L_Data frame: behind the APCI, or behind a control packet's TPCI, to the end that L says; none where it is refused
@@ -21,5 +28,31 @@ DataInPromise s r = r ≡ dataIn s
 abbrev pub ParsePromise : List ℕ → LDataFrame → Type 0
 ParsePromise s r = DataInPromise s (now (r .«data»)) × LData.ParsePromise s (r .answer)
 
+-- A record holds n bytes of data, which stand behind the start of a frame: that frame's checks are repeated, but for its least size, which only says that the start is there.
+abbrev pub heldChecks : LDataFields → ℕ → List Check
+heldChecks f n = drop 1 (LData.recordChecks crateCount f (startOf (isData (f .tpci)) + n))
+
+-- what is held starts where the data does
+abbrev pub heldBy01 : LDataFields → List ℕ → Told
+heldBy01 f s = judged (heldChecks f (length s)) (viewed 0 (crateCount .endOf (f .«npdu_length») - startOf (isData (f .tpci))))
+
+abbrev pub HeldViewPromise : List ℕ → LDataFields → View → Type 0
+HeldViewPromise s f r = Parts.told r ≡ heldBy01 f s
+
+-- where the data stands in the bytes that a record holds; of a refused one the refusal
+abbrev pub viewOf : LDataAnswer → List ℕ → Told
+viewOf (Frame f) s = heldBy01 f s
+viewOf (Refused e) s = refused 0 e
+
+abbrev pub DataViewPromise : List ℕ → LDataAnswer → View → Type 0
+DataViewPromise s a r = Parts.told r ≡ viewOf a s
+
+-- and the part there
+abbrev pub dataOf : LDataAnswer → List ℕ → List ℕ
+dataOf a s = shown s (viewOf a s)
+
+abbrev pub DataOfPromise : List ℕ → LDataAnswer → List ℕ → Type 0
+DataOfPromise s a r = r ≡ dataOf a s
+
 abbrev pub DataPromise : LDataFrame → List ℕ → Type 0
-DataPromise f r = r ≡ now (f .«data»)
+DataPromise f r = DataOfPromise (now (f .«data»)) (f .answer) r

@@ -1,7 +1,8 @@
 // A frame that holds its bytes.
-ghost use Rattle.views.specs.KnxnetIp.{HeldPromise, ParsePromise, BodyOfPromise, BodyPromise, BodyInPromise};
+ghost use Rattle.views.specs.KnxnetIp.{HeldPromise, ParsePromise, BodyViewPromise, BodyOfPromise, BodyPromise, BodyInPromise};
 use frame::FrameAnswer;
 use frame::FrameFields;
+use wire::View;
 
 // The bytes of the datagram, none where it is refused, and what parsing it answered.
 pub struct KnxnetIpFrame<'a> {
@@ -33,6 +34,16 @@ pub fn body_in(datagram: &[u8]) -> &[u8]
     KnxnetIpFrame::parse(datagram).body()
 }
 
+// Where the body stands in what a frame holds; a frame that no parse made is checked here.
+pub fn body_view(data: &[u8], answer: FrameAnswer) -> View
+    ensures { λ r. ⌜ BodyViewPromise (now («data» .entry)) answer r ⌝ }
+{
+    match answer {
+        FrameAnswer::Frame(frame) => frame.body(data),
+        FrameAnswer::Refused(why) => View::refused(why),
+    }
+}
+
 fn held(datagram: &[u8]) -> &[u8]
     ensures { λ r. ⌜ HeldPromise (now (datagram .entry)) (now r) ⌝ }
 {
@@ -45,8 +56,6 @@ fn held(datagram: &[u8]) -> &[u8]
 fn body_of(data: &[u8], answer: FrameAnswer) -> &[u8]
     ensures { λ r. ⌜ BodyOfPromise (now («data» .entry)) answer (now r) ⌝ }
 {
-    match answer {
-        FrameAnswer::Frame(frame) => frame.body_part(data),
-        FrameAnswer::Refused(_) => wire::part(data, 0, 0),
-    }
+    let view = body_view(data, answer);
+    wire::part(data, view.start, view.end)
 }

@@ -1,7 +1,11 @@
 // An L_Data frame that holds its data.
-ghost use Rattle.views.specs.LData.{DataInPromise, ParsePromise, DataPromise};
+ghost use mathlib.Core.Path.{_≡_};
+ghost use Rattle.ldata.specs.Count.{startOf};
+ghost use Rattle.views.specs.LData.{DataInPromise, ParsePromise, HeldViewPromise, DataViewPromise, DataOfPromise, DataPromise};
 use ldata::LDataAnswer;
 use ldata::LDataFields;
+use wire::Refusal;
+use wire::View;
 
 // The application data, none where the frame is refused, and what parsing it answered.
 pub struct LDataFrame<'a> {
@@ -14,7 +18,7 @@ impl<'a> LDataFrame<'a> {
         ensures { λ r. ⌜ ParsePromise (now («data» .entry)) r ⌝ }
     {
         LDataFrame {
-            data: data_of(data),
+            data: held(data),
             answer: LDataFields::parse(data),
         }
     }
@@ -22,7 +26,7 @@ impl<'a> LDataFrame<'a> {
     pub fn data(self) -> &'a [u8]
         ensures { λ r. ⌜ DataPromise (self .entry) (now r) ⌝ }
     {
-        self.data
+        data_of(self.data, self.answer)
     }
 }
 
@@ -33,7 +37,50 @@ pub fn data_in(bytes: &[u8]) -> &[u8]
     LDataFrame::parse(bytes).data()
 }
 
-fn data_of(bytes: &[u8]) -> &[u8]
+// Where the data stands in what a frame holds; a frame that no parse made is checked here.
+pub fn data_view(data: &[u8], answer: LDataAnswer) -> View
+    ensures { λ r. ⌜ DataViewPromise (now («data» .entry)) answer r ⌝ }
+{
+    match answer {
+        LDataAnswer::Frame(frame) => held_view(data, frame),
+        LDataAnswer::Refused(why) => View::refused(why),
+    }
+}
+
+// The frame's data alone is held, so all of it stands from the start on.
+fn held_view(data: &[u8], frame: LDataFields) -> View
+    ensures { λ r. ⌜ HeldViewPromise (now («data» .entry)) frame r ⌝ }
+{
+    let tpci = frame.tpci;
+    let start = data_start(tpci.is_data());
+    let end = 7 + frame.npdu_length as usize;
+    if start + data.len() < end {
+        return View::refused(Refusal::InvalidFrame);
+    }
+    if end < start {
+        return View::refused(Refusal::InvalidFrame);
+    }
+    View {
+        number: 0,
+        start: 0,
+        end: end - start,
+    }
+}
+
+fn data_start(is_data: bool) -> usize
+    ensures { λ r. ⌜ r ≡ startOf «is_data» ⌝ }
+{
+    if is_data { 9 } else { 8 }
+}
+
+fn data_of(data: &[u8], answer: LDataAnswer) -> &[u8]
+    ensures { λ r. ⌜ DataOfPromise (now («data» .entry)) answer (now r) ⌝ }
+{
+    let view = data_view(data, answer);
+    wire::part(data, view.start, view.end)
+}
+
+fn held(bytes: &[u8]) -> &[u8]
     ensures { λ r. ⌜ DataInPromise (now (bytes .entry)) (now r) ⌝ }
 {
     match LDataFields::parse(bytes) {

@@ -52,10 +52,10 @@ use Rattle.views.specs.LData.{DataInPromise}
 use Rattle.views.specs.declared.l_data.LDataFrame.{LDataFrame}
 use Rattle.views.proofs.l_data.LDataFrame as T
 use Rattle.views.proofs.l_data.LDataFrame.Laws as T′
-use Rattle.views.proofs.l_data.data_of as parts
-use Rattle.views.proofs.l_data.data_of.Symbol as parts-def
-use Rattle.views.proofs.l_data.data_of.Symbol.{name as #parts}
-use Rattle.views.proofs.l_data.data_of.Met as parts-thm
+use Rattle.views.proofs.l_data.held as parts
+use Rattle.views.proofs.l_data.held.Symbol as parts-def
+use Rattle.views.proofs.l_data.held.Symbol.{name as #parts}
+use Rattle.views.proofs.l_data.held.Met as parts-thm
 use Rattle.views.proofs.l_data.LDataFrame.parse.Key.{name as #parse}
 use Rattle.views.proofs.l_data.LDataFrame.parse as fn
 use Rattle.views.proofs.l_data.LDataFrame.parse.Statement as stated
@@ -211,5 +211,5 @@ parse-spec 𝓤 H 𝓜 𝓖 𝓡 =
     entered 𝓤 H (tripleOf 𝓤 H (𝓖 .A) fn.signature (fn.spec 𝓤 H (𝓖 .A) (𝓜 .mem) (𝓡 .run)))
     (tables 𝓤 H 𝓜 𝓡 code.env .C) (tables 𝓤 H 𝓜 𝓡 code.env .Λ) #parse code.function (code.unfolded 𝓤 H 𝓜 𝓡)
     (parse-meets 𝓤 H (𝓖 .A) (givenOf 𝓤 H 𝓜 𝓖) (𝓜 .mem) (𝓡 .run) (tablesOf 𝓤 H 𝓜 (tables 𝓤 H 𝓜 𝓡 code.env))
-    (cited 𝓤 H (Parts 𝓤 H (𝓖 .A) (𝓜 .mem) (𝓡 .run)) 𝓜 𝓡 code.env #parts parts-def.routine code.calls-views·l-data·data-of (parts-thm.met 𝓤 H 𝓜 𝓖 𝓡))
+    (cited 𝓤 H (Parts 𝓤 H (𝓖 .A) (𝓜 .mem) (𝓡 .run)) 𝓜 𝓡 code.env #parts parts-def.routine code.calls-views·l-data·held (parts-thm.met 𝓤 H 𝓜 𝓖 𝓡))
     (cited 𝓤 H (Answers 𝓤 H (𝓖 .A) (𝓜 .mem) (𝓡 .run)) 𝓜 𝓡 code.env #answers answers-def.routine code.calls-ldata·fields·LDataFields·parse (answers-thm.met 𝓤 H 𝓜 𝓖 𝓡)))
