@@ -7,10 +7,11 @@ use lib.ListN.{length, getD}
 use lib.Dec.{ltb}
 use Rattle.wire.specs.Told.{Told, done, viewed, refused, Check, _⇒_, verdict, judged}
 use Rattle.wire.specs.Coding.{check}
-use Rattle.wire.specs.Layout.{Field, byte, size, get}
+use Rattle.wire.specs.Layout.{Field, byte, get}
+use Rattle.wire.specs.Format.{Format, checksOf, readBy01}
 use Rattle.wire.specs.Parts.{partOf, shown}
 use Rattle.wire.specs.Parts as Parts
-use Rattle.wire.specs.declared.refusals.Refusal.the-variants.{BufferTooSmall, InvalidFrame, InvalidMessageCode}
+use Rattle.wire.specs.declared.refusals.Refusal.the-variants.{InvalidFrame, InvalidMessageCode}
 use Rattle.wire.specs.declared.refusals.Verdict.{Verdict}
 use Rattle.wire.specs.declared.parts.View.{View}
 use Rattle.constants.specs.MessageCodes.{messageCodes, codeOf}
@@ -30,15 +31,19 @@ use Rattle.cemi.specs.declared.InfoLengthAnswer.the-variants as I
 abbrev pub fields : List Field
 fields = byte ∷ byte ∷ []
 
+-- unknown message code (6); a record holds the code alone
+abbrev pub format : Format
+format = record { fields = fields; asks = λ vs. check messageCodes (getD vs 0 0) ∷ []; holds = λ vs. getD vs 0 0 ∷ [] }
+
 abbrev pub codeIn : List ℕ → ℕ
 codeIn s = getD (get fields 0 s) 0 0
 
 abbrev pub infoLength : List ℕ → ℕ
 infoLength s = getD (get fields 0 s) 1 0
 
--- fewer than 2 bytes (1), unknown message code (6)
+-- fewer than 2 bytes (1), then that
 abbrev pub checks : List ℕ → List Check
-checks s = ltb (length s) (size fields) ⇒ BufferTooSmall ∷ check messageCodes (codeIn s) ∷ []
+checks s = checksOf format (length s) (get fields 0 s)
 
 abbrev pub StandsPromise : List ℕ → Verdict → Type 0
 StandsPromise s r = r ≡ verdict (checks s)
@@ -48,7 +53,7 @@ told (C.Frame f) = done (codeOf (f .«message_code») ∷ [])
 told (C.Refused e) = refused 1 e
 
 abbrev pub parseBy01 : List ℕ → Told
-parseBy01 s = judged (checks s) (done (codeIn s ∷ []))
+parseBy01 s = readBy01 format s
 
 abbrev pub ParsePromise : List ℕ → CEMIAnswer → Type 0
 ParsePromise s r = told r ≡ parseBy01 s

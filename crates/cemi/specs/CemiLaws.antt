@@ -11,7 +11,8 @@ use Rattle.wire.specs.Told.{Told, done, verdict, answer}
 use Rattle.wire.specs.Coding.{check}
 use Rattle.wire.specs.ToldLaws.{let-refuse, stays, goes-on, holds, was-accepted, was-refused, let-through, same, one-to-one, answerOf, back-refused}
 use Rattle.wire.specs.Layout.{put}
-use Rattle.wire.specs.LayoutLaws.{Bytes, put-get}
+use Rattle.wire.specs.LayoutLaws.{Bytes}
+use Rattle.wire.specs.FormatLaws as FormatLaws
 use Rattle.wire.specs.PartLaws as PartLaws
 use Rattle.wire.specs.declared.parts.View.{View}
 use Rattle.wire.specs.declared.refusals.Refusal.{Refusal}
@@ -27,7 +28,7 @@ use Rattle.ldata.specs.LData as LData
 use Rattle.ldata.specs.LDataLaws as LDataLaws
 use Rattle.ldata.specs.declared.fields.LDataAnswer.{LDataAnswer}
 use Rattle.ldata.specs.declared.fields.LDataAnswer.the-variants as L
-use Rattle.cemi.specs.Cemi.{fields, codeIn, infoLength, checks, told, ParsePromise, toldLength, InfoLengthPromise, infoCheck, ServiceInfoPromise, isLData, serviceInfo, ldataChecks, AsLDataPromise}
+use Rattle.cemi.specs.Cemi.{fields, format, codeIn, infoLength, checks, told, ParsePromise, toldLength, InfoLengthPromise, infoCheck, ServiceInfoPromise, isLData, serviceInfo, ldataChecks, AsLDataPromise}
 use Rattle.cemi.specs.declared.CEMIFrame.{CEMIFrame}
 use Rattle.cemi.specs.declared.CEMIAnswer.{CEMIAnswer}
 use Rattle.cemi.specs.declared.CEMIAnswer.the-variants as C
@@ -82,10 +83,7 @@ module _ (f : CEMIFrame) (s : List ℕ) where
 
 -- the first two bytes are the code and the length
 pub has-layout : (s : List ℕ) (f : CEMIFrame) → Bytes s → ParsePromise s (C.Frame f) → take 2 s ≡ put fields (codeOf (f .«message_code») ∷ infoLength s ∷ [])
-has-layout s f b p =
-    let enough : 2 ≤ length s = ltb-false (length s) 2 (holds [] (ltb (length s) 2) BufferTooSmall (check messageCodes (codeIn s) ∷ []) (stood s f p)) in
-    let read : told (C.Frame f) ≡ done (codeIn s ∷ []) = let-through (checks s) (done (codeIn s ∷ [])) (told (C.Frame f)) refl p in
-    sym (put-get fields 0 s b (omega arith)) ∙ ap (λ (t : Told). put fields (getD (t .values) 0 0 ∷ infoLength s ∷ [])) (sym read)
+has-layout s f b p = let x = FormatLaws.accepted format s (told (C.Frame f)) refl p in x .bytes b ∙ ap (λ (t : Told). put fields (getD (t .values) 0 0 ∷ infoLength s ∷ [])) (sym (x .told-is))
 
 -- ---- no second answer
 

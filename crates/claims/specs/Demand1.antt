@@ -11,6 +11,7 @@ use Rattle.wire.specs.Parts as Parts
 use Rattle.wire.specs.PartLaws.{shown-refused}
 use Rattle.wire.specs.declared.refusals.Refusal.{Refusal}
 use Rattle.wire.specs.declared.refusals.Verdict.the-variants.{Refuse}
+use Rattle.wire.specs.Format.{checksOf}
 use Rattle.wire.specs.Refusing.{Zeros, Refusing, Leaves, refused-zeros, judged-refusing, writes-refusing}
 use Rattle.wire.specs.declared.refusals.Written.{Written}
 use Rattle.wire.specs.declared.parts.View.{View}
@@ -261,11 +262,11 @@ channel-request s channel h b = writes-refusing (Channel.requestChecks (length b
 
 -- connect::ConnectionStateResponse::parse
 pub state-response-parse : (s : List ℕ) (r : ConnectionStateAnswer) → Channel.StateParsePromise s r → Refusing (Channel.toldState r)
-state-response-parse s r = judged-refusing (Channel.statusChecks (length s)) (done (get Channel.statusFields 0 s)) (Channel.toldState r) refl
+state-response-parse s r = judged-refusing (checksOf Channel.statusFormat (length s) (get Channel.statusFields 0 s)) (done (get Channel.statusFields 0 s)) (Channel.toldState r) refl
 
 -- connect::DisconnectResponse::parse
 pub disconnect-response-parse : (s : List ℕ) (r : DisconnectAnswer) → Channel.DisconnectParsePromise s r → Refusing (Channel.toldDisconnect r)
-disconnect-response-parse s r = judged-refusing (Channel.statusChecks (length s)) (done (get Channel.statusFields 0 s)) (Channel.toldDisconnect r) refl
+disconnect-response-parse s r = judged-refusing (checksOf Channel.statusFormat (length s) (get Channel.statusFields 0 s)) (done (get Channel.statusFields 0 s)) (Channel.toldDisconnect r) refl
 
 -- ---- tunnelling
 
@@ -581,6 +582,7 @@ host-table-calls = CalledLaws.call-refusing
 -- replay::refused
 -- replay::few
 -- replay::flag
+-- replay::moved
 -- replay::written
 -- replay::remainder
 -- replay::line

@@ -893,6 +893,10 @@ replay-few count four r q = same
 pub replay-flag : One Telling.FlagPromise
 replay-flag b r q = same
 
+-- replay::moved
+pub replay-moved : One₂ Telling.MovedPromise
+replay-moved start at r q = same
+
 -- replay::written
 pub replay-written : One Telling.WrittenPromise
 replay-written w r q = same

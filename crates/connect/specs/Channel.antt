@@ -4,11 +4,11 @@ use mathlib.Core.Path.{_≡_}
 use mathlib.Core.Bool.{Bool}
 use mathlib.Core.List.{List, [], _∷_, _++_}
 use lib.ListN.{length}
-use lib.Dec.{ltb, eqb}
-use Rattle.wire.specs.Told.{Told, done, refused, Check, _⇒_, judged}
+use lib.Dec.{eqb}
+use Rattle.wire.specs.Told.{Told, done, refused, Check}
 use Rattle.wire.specs.Written.{Writes, room}
-use Rattle.wire.specs.Layout.{Field, byte, size, put, get}
-use Rattle.wire.specs.declared.refusals.Refusal.the-variants.{BufferTooSmall}
+use Rattle.wire.specs.Layout.{Field, byte, put}
+use Rattle.wire.specs.Format.{Format, readBy01}
 use Rattle.wire.specs.declared.refusals.Written.{Written}
 use Rattle.constants.specs.declared.ServiceType.{ServiceType}
 use Rattle.constants.specs.declared.ServiceType.the-variants as S
@@ -55,12 +55,12 @@ DisconnectBuildPromise q b r after = RequestPromise S.DisconnectRequest (q .«ch
 abbrev pub statusFields : List Field
 statusFields = byte ∷ byte ∷ []
 
--- fewer than 2 (1)
-abbrev pub statusChecks : ℕ → List Check
-statusChecks n = ltb n (size statusFields) ⇒ BufferTooSmall ∷ []
+-- fewer than 2 (1); nothing is asked of the values
+abbrev pub statusFormat : Format
+statusFormat = record { fields = statusFields; asks = λ vs. []; holds = λ vs. vs }
 
 abbrev pub statusBy01 : List ℕ → Told
-statusBy01 s = judged (statusChecks (length s)) (done (get statusFields 0 s))
+statusBy01 s = readBy01 statusFormat s
 
 -- the two values
 abbrev pub status : ℕ → ℕ → Told

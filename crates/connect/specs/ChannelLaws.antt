@@ -9,6 +9,7 @@ use borrow.Author.Tests.{ltb-false}
 use Rattle.wire.specs.Told.{Told, done}
 use Rattle.wire.specs.ToldLaws.{one-to-one, answerOf, back-refused, holds, was-accepted, let-through, same}
 use Rattle.wire.specs.Layout.{put, get}
+use Rattle.wire.specs.FormatLaws as FormatLaws
 use Rattle.wire.specs.LayoutLaws.{Bytes, put-get}
 use Rattle.wire.specs.WrittenLaws.{writes-one}
 use Rattle.wire.specs.declared.refusals.Refusal.the-variants.{BufferTooSmall}
@@ -23,7 +24,7 @@ use Rattle.hpai.specs.Hpai as Hpai
 use Rattle.hpai.specs.HpaiLaws as HpaiLaws
 use Rattle.hpai.specs.declared.Hpai.{Hpai}
 use Rattle.hpai.specs.declared.HpaiAnswer.{HpaiAnswer}
-use Rattle.connect.specs.Channel.{requestLayout, requestChecks, RequestPromise, statusFields, statusChecks, statusBy01, status, toldState, StateParsePromise, toldDisconnect, DisconnectParsePromise}
+use Rattle.connect.specs.Channel.{requestLayout, requestChecks, RequestPromise, statusFields, statusFormat, statusBy01, status, toldState, StateParsePromise, toldDisconnect, DisconnectParsePromise}
 use Rattle.connect.specs.declared.channel.ConnectionStateAnswer.{ConnectionStateAnswer}
 use Rattle.connect.specs.declared.channel.ConnectionStateAnswer.the-variants as C
 use Rattle.connect.specs.declared.channel.DisconnectAnswer.{DisconnectAnswer}
@@ -82,7 +83,4 @@ disconnect-parse-one s r q a b = disconnect-told-one r q (same a b)
 -- what is accepted starts with the two values that are told
 pub has-layout : (s : List ℕ) (channel code : ℕ) → Bytes s → status channel code ≡ statusBy01 s → take 2 s ≡ put statusFields (channel ∷ code ∷ [])
 has-layout s channel code b q =
-    let vs : List ℕ = get statusFields 0 s in
-    let read : status channel code ≡ done vs = let-through (statusChecks (length s)) (done vs) (status channel code) refl q in
-    let enough : 2 ≤ length s = ltb-false (length s) 2 (holds [] (ltb (length s) 2) BufferTooSmall [] (was-accepted (statusChecks (length s)) (done vs) (status channel code) refl q)) in
-    sym (put-get statusFields 0 s b (omega arith)) ∙ ap (λ (t : Told). put statusFields (t .values)) (sym read)
+    let x = FormatLaws.accepted statusFormat s (status channel code) refl q in x .bytes b ∙ ap (λ (t : Told). put statusFields (t .values)) (sym (x .told-is))

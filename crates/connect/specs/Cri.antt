@@ -3,11 +3,11 @@ use Prim.Native.Nat.{ℕ}
 use mathlib.Core.Path.{_≡_}
 use mathlib.Core.List.{List, [], _∷_}
 use lib.ListN.{length, getD}
-use lib.Dec.{ltb}
-use Rattle.wire.specs.Told.{Told, done, refused, Check, _⇒_, differs, judged}
+use Rattle.wire.specs.Told.{Told, done, refused, Check, _⇒_, differs}
 use Rattle.wire.specs.Written.{Writes, room}
-use Rattle.wire.specs.Layout.{Field, byte, size, put, get}
-use Rattle.wire.specs.declared.refusals.Refusal.the-variants.{BufferTooSmall, InvalidFrame}
+use Rattle.wire.specs.Layout.{Field, byte, size, put}
+use Rattle.wire.specs.Format.{Format, checksOf, readBy01}
+use Rattle.wire.specs.declared.refusals.Refusal.the-variants.{InvalidFrame}
 use Rattle.wire.specs.declared.refusals.Written.{Written}
 use Rattle.connect.specs.declared.cri.ConnectionRequestInfo.{ConnectionRequestInfo}
 use Rattle.connect.specs.declared.cri.ConnectionRequestInfoAnswer.{ConnectionRequestInfoAnswer}
@@ -23,20 +23,33 @@ values c = 4 ∷ c .«connection_type» ∷ c .«knx_layer» ∷ 0 ∷ []
 abbrev pub layout : ConnectionRequestInfo → List ℕ
 layout c = put fields (values c)
 
+abbrev pub lengthIn : List ℕ → ℕ
+lengthIn vs = getD vs 0 0
+
+abbrev pub typeIn : List ℕ → ℕ
+typeIn vs = getD vs 1 0
+
+abbrev pub layerIn : List ℕ → ℕ
+layerIn vs = getD vs 2 0
+
 -- what a record holds of the four values: the last is not looked at
 abbrev pub held : List ℕ → List ℕ
-held vs = getD vs 1 0 ∷ getD vs 2 0 ∷ []
+held vs = typeIn vs ∷ layerIn vs ∷ []
 
--- of an input of n bytes with these values: fewer than 4 (1), length byte not 4 (2)
+-- length byte not 4 (2)
+abbrev pub format : Format
+format = record { fields = fields; asks = λ vs. differs (lengthIn vs) (size fields) ⇒ InvalidFrame ∷ []; holds = held }
+
+-- of an input of n bytes with these values: fewer than 4 (1), then that
 abbrev pub checks : ℕ → List ℕ → List Check
-checks n vs = ltb n (size fields) ⇒ BufferTooSmall ∷ differs (getD vs 0 0) (size fields) ⇒ InvalidFrame ∷ []
+checks n vs = checksOf format n vs
 
 abbrev pub told : ConnectionRequestInfoAnswer → Told
 told (Info c) = done (c .«connection_type» ∷ c .«knx_layer» ∷ [])
 told (Refused e) = refused 2 e
 
 abbrev pub decodeBy01 : List ℕ → Told
-decodeBy01 s = judged (checks (length s) (get fields 0 s)) (done (held (get fields 0 s)))
+decodeBy01 s = readBy01 format s
 
 abbrev pub DecodePromise : List ℕ → ConnectionRequestInfoAnswer → Type 0
 DecodePromise s r = told r ≡ decodeBy01 s

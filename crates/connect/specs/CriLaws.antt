@@ -9,13 +9,14 @@ use borrow.Author.Tests.{le-ltb, ltb-false, eqb-true, not-false}
 use Rattle.wire.specs.Told.{Told, done, Check, differs, _⇒_, verdict}
 use Rattle.wire.specs.ToldLaws.{one-to-one, answerOf, back-refused, holds, let-pass, was-accepted, let-through, same}
 use Rattle.wire.specs.Layout.{put, get}
+use Rattle.wire.specs.FormatLaws as FormatLaws
 use Rattle.wire.specs.LayoutLaws.{Bytes, put-get}
 use Rattle.wire.specs.WrittenLaws.{writes-one, wrote}
 use Rattle.wire.specs.declared.refusals.Refusal.the-variants.{BufferTooSmall, InvalidFrame}
 use Rattle.wire.specs.declared.refusals.Verdict.the-variants.{Accept}
 use Rattle.wire.specs.declared.refusals.Written.{Written}
 use Rattle.wire.specs.declared.refusals.Written.the-variants as W
-use Rattle.connect.specs.Cri.{fields, values, layout, held, checks, told, decodeBy01, DecodePromise, encodeChecks, EncodePromise}
+use Rattle.connect.specs.Cri.{fields, format, values, layout, held, checks, told, decodeBy01, DecodePromise, encodeChecks, EncodePromise}
 use Rattle.connect.specs.declared.cri.ConnectionRequestInfo.{ConnectionRequestInfo}
 use Rattle.connect.specs.declared.cri.ConnectionRequestInfoAnswer.{ConnectionRequestInfoAnswer}
 use Rattle.connect.specs.declared.cri.ConnectionRequestInfoAnswer.the-variants.{Info, Refused}
@@ -38,10 +39,7 @@ pub encode-one : (c : ConnectionRequestInfo) (b : List ℕ) (r q : Written) (aft
 encode-one c b = writes-one (encodeChecks (length b)) (layout c) b
 
 pub reads-back : (c : ConnectionRequestInfo) (rest : List ℕ) → decodeBy01 (layout c ++ rest) ≡ told (Info c)
-reads-back c rest =
-    let n : ℕ = length (layout c ++ rest) in
-    let four : verdict (checks n (values c)) ≡ Accept = simp (le-ltb n 4 (omega arith)) in
-    let-pass (checks n (values c)) (told (Info c)) four
+reads-back c rest = FormatLaws.reads-back format (values c) rest refl refl
 
 pub encode-decode : (c : ConnectionRequestInfo) (b : List ℕ) (n : ℕ) (after : List ℕ) (r : ConnectionRequestInfoAnswer)
     → EncodePromise c b (W.Bytes n) after → DecodePromise after r → r ≡ Info c
@@ -52,12 +50,8 @@ encode-decode c b n after r e q =
 pub has-layout : (s : List ℕ) (c : ConnectionRequestInfo) → Bytes s → DecodePromise s (Info c)
     → take 4 s ≡ put fields (4 ∷ c .«connection_type» ∷ c .«knx_layer» ∷ getD s 3 0 ∷ [])
 has-layout s c b q =
-    let cs : List Check = checks (length s) (get fields 0 s) in
-    let vs : List ℕ = held (get fields 0 s) in
-    let all : verdict cs ≡ Accept = was-accepted cs (done vs) (told (Info c)) refl q in
-    let read : told (Info c) ≡ done vs = let-through cs (done vs) (told (Info c)) refl q in
-    let enough : 4 ≤ length s = ltb-false (length s) 4 (holds [] (ltb (length s) 4) BufferTooSmall (drop 1 cs) all) in
-    let first : getD s 0 0 ≡ 4 = eqb-true (getD s 0 0) 4 (not-false _ (holds (ltb (length s) 4 ⇒ BufferTooSmall ∷ []) (differs (getD s 0 0) 4) InvalidFrame [] all)) in
-    sym (put-get fields 0 s b (omega arith))
-    ∙ ap (λ (t : Told). put fields (getD s 0 0 ∷ getD (t .values) 0 0 ∷ getD (t .values) 1 0 ∷ getD s 3 0 ∷ [])) (sym read)
+    let x = FormatLaws.accepted format s (told (Info c)) refl q in
+    let first : getD s 0 0 ≡ 4 = eqb-true (getD s 0 0) 4 (not-false _ (holds [] (differs (getD s 0 0) 4) InvalidFrame [] (x .asked))) in
+    x .bytes b
+    ∙ ap (λ (t : Told). put fields (getD s 0 0 ∷ getD (t .values) 0 0 ∷ getD (t .values) 1 0 ∷ getD s 3 0 ∷ [])) (sym (x .told-is))
     ∙ ap (λ (k : ℕ). put fields (k ∷ c .«connection_type» ∷ c .«knx_layer» ∷ getD s 3 0 ∷ [])) first

@@ -4,10 +4,10 @@ use mathlib.Core.Path.{_≡_}
 use mathlib.Core.Bool.{Bool}
 use mathlib.Core.List.{List, [], _∷_, _++_}
 use lib.ListN.{length, drop, replicate}
-use lib.Dec.{ltb, eqb}
-use Rattle.wire.specs.Told.{Told, done, Check, _⇒_, judged}
-use Rattle.wire.specs.Layout.{Field, byte, run, size, put, get}
-use Rattle.wire.specs.declared.refusals.Refusal.the-variants.{BufferTooSmall}
+use lib.Dec.{eqb}
+use Rattle.wire.specs.Told.{Told, Check}
+use Rattle.wire.specs.Layout.{Field, byte, run, size, put}
+use Rattle.wire.specs.Format.{Format, checksOf, readBy01}
 use Rattle.hpai.specs.Hpai as Hpai
 use Rattle.connect.specs.declared.response.ConnectResponse.{ConnectResponse}
 use Rattle.connect.specs.declared.response.ConnectResponseAnswer.{ConnectResponseAnswer}
@@ -22,15 +22,19 @@ values c = c .«channel_id» ∷ c .status ∷ (Hpai.values (c .«data_endpoint�
 abbrev pub layout : ConnectResponse → List ℕ
 layout c = put fields (values c)
 
--- of a body of n bytes with these values: fewer than 14 (1), then the checks of the Hpai, which stands behind the first two
+-- the checks of the Hpai, whose values stand behind the first two
+abbrev pub format : Format
+format = record { fields = fields; asks = λ vs. Hpai.checks (size Hpai.fields) (drop 2 vs); holds = λ vs. vs }
+
+-- of a body of n bytes with these values: fewer than 14 (1), then those
 abbrev pub checks : ℕ → List ℕ → List Check
-checks n vs = ltb n (size fields) ⇒ BufferTooSmall ∷ Hpai.checks (size Hpai.fields) (drop 2 vs)
+checks n vs = checksOf format n vs
 
 abbrev pub told : ConnectResponseAnswer → Told
 told r = record { number = r .number; values = values (r .response); start = 0; end = 0 }
 
 abbrev pub parseBy01 : List ℕ → Told
-parseBy01 s = judged (checks (length s) (get fields 0 s)) (done (get fields 0 s))
+parseBy01 s = readBy01 format s
 
 -- the two arrays have four bytes each, as the types say
 pub record Arrays (c : ConnectResponse) : Type 0 where

@@ -10,13 +10,14 @@ use borrow.Author.Tests.{le-ltb, eq-eqb, ltb-false}
 use Rattle.wire.specs.Told.{Told, done, Check, verdict, judged}
 use Rattle.wire.specs.ToldLaws.{refused-as, holds, let-pass, was-accepted, let-through, same}
 use Rattle.wire.specs.Layout.{runAt, put, get}
+use Rattle.wire.specs.FormatLaws as FormatLaws
 use Rattle.wire.specs.LayoutLaws.{Bytes, get-part, put-get, get-put, length-put}
 use Rattle.wire.specs.declared.refusals.Refusal.the-variants.{BufferTooSmall}
 use Rattle.wire.specs.declared.refusals.Verdict.the-variants.{Accept}
 use Rattle.hpai.specs.Hpai as Hpai
 use Rattle.hpai.specs.declared.Hpai.{Hpai}
 use Rattle.hpai.specs.declared.HpaiAnswer.{HpaiAnswer}
-use Rattle.connect.specs.Response.{fields, values, layout, checks, told, parseBy01, Arrays, ParsePromise}
+use Rattle.connect.specs.Response.{fields, format, values, layout, checks, told, parseBy01, Arrays, ParsePromise}
 use Rattle.connect.specs.declared.response.ConnectResponse.{ConnectResponse}
 use Rattle.connect.specs.declared.response.ConnectResponseAnswer.{ConnectResponseAnswer}
 
@@ -92,17 +93,8 @@ length-values c a =
 
 -- a response whose endpoint has the proper length byte is read back
 pub reads-back : (c : ConnectResponse) (rest : List ℕ) → Arrays c → c .«data_endpoint» .«structure_length» ≡ 8 → parseBy01 (layout c ++ rest) ≡ told (accepted c)
-reads-back c rest a e =
-    let n : ℕ = length (layout c ++ rest) in
-    let enough : 14 ≤ n = omega (arith, length-append (layout c) rest, length-put fields (values c) (length-values c a)) in
-    let held : verdict (checks n (values c)) ≡ Accept = simp (le-ltb n 14 enough, eq-eqb _ _ e) in
-    ap (λ (vs : List ℕ). judged (checks n vs) (done vs)) (get-put fields (values c) [] rest 0 refl (length-values c a)) ∙ let-pass (checks n (values c)) (done (values c)) held
+reads-back c rest a e = FormatLaws.reads-back format (values c) rest (length-values c a) (simp (eq-eqb _ _ e))
 
 -- what is accepted has the layout of its answer
 pub has-layout : (s : List ℕ) (c : ConnectResponse) → Bytes s → ParsePromise s (accepted c) → take 14 s ≡ layout c
-has-layout s c b q =
-    let vs : List ℕ = get fields 0 s in
-    let cs : List Check = checks (length s) vs in
-    let read : values c ≡ vs = ap (λ (t : Told). t .values) (let-through cs (done vs) (done (values c)) refl (q .0)) in
-    let enough : 14 ≤ length s = ltb-false (length s) 14 (holds [] (ltb (length s) 14) BufferTooSmall (drop 1 cs) (was-accepted cs (done vs) (done (values c)) refl (q .0))) in
-    sym (put-get fields 0 s b (omega arith)) ∙ ap (put fields) (sym read)
+has-layout s c b q = let x = FormatLaws.accepted format s (told (accepted c)) refl (q .0) in x .bytes b ∙ ap (λ (t : Told). put fields (t .values)) (sym (x .told-is))

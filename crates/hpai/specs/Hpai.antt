@@ -3,12 +3,12 @@ use Prim.Native.Nat.{ℕ}
 use mathlib.Core.Path.{_≡_}
 use mathlib.Core.List.{List, [], _∷_, _++_}
 use lib.ListN.{length, getD}
-use lib.Dec.{ltb}
-use Rattle.wire.specs.Told.{Told, done, refused, Check, _⇒_, differs, judged}
+use Rattle.wire.specs.Told.{Told, refused, Check, _⇒_, differs}
 use Rattle.wire.specs.Written.{Writes, room}
-use Rattle.wire.specs.Layout.{Field, byte, word, run, size, put, get}
+use Rattle.wire.specs.Layout.{Field, byte, word, run, size, put}
+use Rattle.wire.specs.Format.{Format, checksOf, readBy01}
 use Rattle.wire.specs.declared.refusals.Refusal.{Refusal}
-use Rattle.wire.specs.declared.refusals.Refusal.the-variants.{BufferTooSmall, InvalidFrame}
+use Rattle.wire.specs.declared.refusals.Refusal.the-variants.{InvalidFrame}
 use Rattle.wire.specs.declared.refusals.Written.{Written}
 use Rattle.constants.specs.Constants.{ipv4Udp}
 use Rattle.hpai.specs.declared.Hpai.{Hpai}
@@ -28,18 +28,22 @@ layout h = put fields (values h)
 abbrev pub ToBytesPromise : Hpai → List ℕ → Type 0
 ToBytesPromise h r = (r ≡ layout h) × (length r ≡ size fields)
 
--- of an input of n bytes with these values: fewer than 8 (1), length byte not 8 (2); the protocol byte is not checked
+abbrev pub lengthIn : List ℕ → ℕ
+lengthIn vs = getD vs 0 0
+
+-- length byte not 8 (2); the protocol byte is not checked
+abbrev pub format : Format
+format = record { fields = fields; asks = λ vs. differs (lengthIn vs) (size fields) ⇒ InvalidFrame ∷ []; holds = λ vs. vs }
+
+-- of an input of n bytes with these values: fewer than 8 (1), then that
 abbrev pub checks : ℕ → List ℕ → List Check
-checks n vs =
-    ltb n (size fields) ⇒ BufferTooSmall
-    ∷ differs (getD vs 0 0) (size fields) ⇒ InvalidFrame
-    ∷ []
+checks n vs = checksOf format n vs
 
 abbrev pub told : HpaiAnswer → Told
 told r = record { number = r .number; values = values (r .hpai); start = 0; end = 0 }
 
 abbrev pub parseBy01 : List ℕ → Told
-parseBy01 s = judged (checks (length s) (get fields 0 s)) (done (get fields 0 s))
+parseBy01 s = readBy01 format s
 
 abbrev pub ParsePromise : List ℕ → HpaiAnswer → Type 0
 ParsePromise s r = told r ≡ parseBy01 s

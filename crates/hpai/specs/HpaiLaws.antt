@@ -10,12 +10,13 @@ use borrow.Author.Tests.{le-ltb, eq-eqb, ltb-false}
 use Rattle.wire.specs.Told.{Told, done, Check, verdict, judged}
 use Rattle.wire.specs.ToldLaws.{one-to-one, holds, let-pass, was-accepted, let-through, same}
 use Rattle.wire.specs.Layout.{highOf, lowOf, runAt, put, get}
+use Rattle.wire.specs.FormatLaws as FormatLaws
 use Rattle.wire.specs.LayoutLaws.{Bytes, run-all, put-get, length-put, get-put}
 use Rattle.wire.specs.WrittenLaws.{writes-one, wrote}
 use Rattle.wire.specs.declared.refusals.Refusal.the-variants.{BufferTooSmall}
 use Rattle.wire.specs.declared.refusals.Written.{Written}
 use Rattle.wire.specs.declared.refusals.Written.the-variants as W
-use Rattle.hpai.specs.Hpai.{fields, values, layout, checks, told, parseBy01, ParsePromise, encodeChecks, EncodePromise}
+use Rattle.hpai.specs.Hpai.{fields, format, values, layout, checks, told, parseBy01, ParsePromise, encodeChecks, EncodePromise}
 use Rattle.hpai.specs.declared.Hpai.{Hpai}
 use Rattle.hpai.specs.declared.HpaiAnswer.{HpaiAnswer}
 
@@ -70,12 +71,7 @@ abbrev pub accepted : Hpai → HpaiAnswer
 accepted h = record { number = 0; hpai = h }
 
 pub reads-back : (h : Hpai) (rest : List ℕ) → Proper h → parseBy01 (layout h ++ rest) ≡ told (accepted h)
-reads-back h rest p =
-    let n : ℕ = length (layout h ++ rest) in
-    let seven : length (values h) ≡ 7 = length-values h (p .address-4) in
-    let eight : 8 ≤ n = omega (arith, length-append (layout h) rest, length-layout h (p .address-4)) in
-    let held : verdict (checks n (values h)) ≡ verdict [] = simp (le-ltb n 8 eight, eq-eqb _ _ (p .length-8)) in
-    ap (λ (vs : List ℕ). judged (checks n vs) (done vs)) (get-put fields (values h) [] rest 0 refl seven) ∙ let-pass (checks n (values h)) (done (values h)) held
+reads-back h rest p = FormatLaws.reads-back format (values h) rest (length-values h (p .address-4)) (simp (eq-eqb _ _ (p .length-8)))
 
 pub encode-parse : (h : Hpai) (b : List ℕ) (n : ℕ) (after : List ℕ) (r : HpaiAnswer)
     → Proper h → EncodePromise h b (W.Bytes n) after → ParsePromise after r → r ≡ accepted h
@@ -85,9 +81,4 @@ encode-parse h b n after r p e q =
 -- ---- read, then written
 
 pub has-layout : (s : List ℕ) (h : Hpai) → Bytes s → ParsePromise s (accepted h) → take 8 s ≡ layout h
-has-layout s h b q =
-    let vs : List ℕ = get fields 0 s in
-    let cs : List Check = checks (length s) vs in
-    let read : values h ≡ vs = ap (λ (t : Told). t .values) (let-through cs (done vs) (done (values h)) refl q) in
-    let enough : 8 ≤ length s = ltb-false (length s) 8 (holds [] (ltb (length s) 8) BufferTooSmall (drop 1 cs) (was-accepted cs (done vs) (done (values h)) refl q)) in
-    sym (put-get fields 0 s b (omega arith)) ∙ ap (put fields) (sym read)
+has-layout s h b q = let x = FormatLaws.accepted format s (told (accepted h)) refl q in x .bytes b ∙ ap (λ (t : Told). put fields (t .values)) (sym (x .told-is))

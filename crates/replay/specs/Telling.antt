@@ -3,6 +3,7 @@ use Prim.Native.Nat.{ℕ, _+_, _*_, _%_}
 use mathlib.Core.Path.{_≡_}
 use mathlib.Core.Bool.{Bool, true, false, cond}
 use mathlib.Core.List.{List, [], _∷_}
+use lib.Dec.{ltb}
 use lib.ListN.{getD}
 use Rattle.wire.specs.Numbers.{numberOf}
 use Rattle.wire.specs.declared.refusals.Refusal.{Refusal}
@@ -29,6 +30,13 @@ FewPromise count four r = r ≡ fewOf count four
 
 abbrev pub FlagPromise : Bool → ℕ → Type 0
 FlagPromise b r = r ≡ cond b 1 0
+
+-- a place in a part that starts at a place in the whole
+abbrev pub movedBy : ℕ → ℕ → ℕ
+movedBy start at = cond (ltb at 1000000) (cond (ltb start 1000000) (start + at) 0) 0
+
+abbrev pub MovedPromise : ℕ → ℕ → ℕ → Type 0
+MovedPromise start at r = r ≡ movedBy start at
 
 -- the buffer is shown too
 abbrev pub lent : Told → Told

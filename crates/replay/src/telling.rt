@@ -1,6 +1,6 @@
 // What a call told.
 ghost use mathlib.Core.Path.{_≡_};
-ghost use Rattle.replay.specs.Telling.{RefusedPromise, FewPromise, FlagPromise, lent, WrittenPromise, RemainderPromise};
+ghost use Rattle.replay.specs.Telling.{RefusedPromise, FewPromise, FlagPromise, MovedPromise, lent, WrittenPromise, RemainderPromise};
 use wire::Refusal;
 use wire::Written;
 
@@ -56,6 +56,18 @@ pub fn flag(b: bool) -> usize
     ensures { λ r. ⌜ FlagPromise b r ⌝ }
 {
     if b { 1 } else { 0 }
+}
+
+// A place in a part, as a place in the whole; places of a million and more do not occur, and count as 0.
+pub fn moved(start: usize, at: usize) -> usize
+    ensures { λ r. ⌜ MovedPromise start at r ⌝ }
+{
+    if at < 1000000 {
+        if start < 1000000 {
+            return start + at;
+        }
+    }
+    0
 }
 
 // What an encoder or a builder answered.

@@ -149,23 +149,13 @@ fn inside(f: CEMIFrame, args: &[u8], count: usize) -> Told {
             let view = l.data(part);
             fields(
                 l,
-                moved(info.start, view.start),
-                moved(info.start, view.end),
+                replay::moved(info.start, view.start),
+                replay::moved(info.start, view.end),
                 replay::remainder(l.data_part(part)),
             )
         }
         LDataAnswer::Refused(why) => replay::refused(why, count),
     }
-}
-
-// A place in the part, as a place in the whole.
-fn moved(start: usize, at: usize) -> usize {
-    if at < 1000000 {
-        if start < 1000000 {
-            return start + at;
-        }
-    }
-    0
 }
 
 // The record's code is set by hand. Whether it is L_Data stands behind the twelve values.

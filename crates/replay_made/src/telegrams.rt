@@ -66,8 +66,8 @@ fn inside(l: LDataFields, from: usize, part: &[u8]) -> Told {
     t.values[6] = variants::sequence(tpci);
     t.values[7] = variants::apci(apci);
     t.values[8] = apci.to_u16() as usize;
-    t.values[9] = std::num::wrapping_add_usize(from, view.start);
-    t.values[10] = std::num::wrapping_add_usize(from, view.end);
+    t.values[9] = replay::moved(from, view.start);
+    t.values[10] = replay::moved(from, view.end);
     t.values[11] = replay::remainder(l.data_part(part));
     t
 }
