@@ -31,15 +31,21 @@ use Rattle.cemi.specs.declared.InfoLengthAnswer.the-variants as I
 abbrev pub fields : List Field
 fields = byte ∷ byte ∷ []
 
+abbrev messageIn : List ℕ → ℕ
+messageIn vs = getD vs 0 0
+
+abbrev infoIn : List ℕ → ℕ
+infoIn vs = getD vs 1 0
+
 -- unknown message code (6); a record holds the code alone
 abbrev pub format : Format
-format = record { fields = fields; asks = λ vs. check messageCodes (getD vs 0 0) ∷ []; holds = λ vs. getD vs 0 0 ∷ [] }
+format = record { fields = fields; asks = λ vs. check messageCodes (messageIn vs) ∷ []; holds = λ vs. messageIn vs ∷ [] }
 
 abbrev pub codeIn : List ℕ → ℕ
-codeIn s = getD (get fields 0 s) 0 0
+codeIn s = messageIn (get fields 0 s)
 
 abbrev pub infoLength : List ℕ → ℕ
-infoLength s = getD (get fields 0 s) 1 0
+infoLength s = infoIn (get fields 0 s)
 
 -- fewer than 2 bytes (1), then that
 abbrev pub checks : List ℕ → List Check

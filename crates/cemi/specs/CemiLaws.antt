@@ -5,18 +5,17 @@ use mathlib.Core.Path.{_≡_, refl, sym, ap, _∙_}
 use mathlib.Core.Bool.{true, false, not}
 use mathlib.Core.List.{List, [], _∷_, _++_}
 use lib.ListN.{length, getD, take}
-use lib.Dec.{ltb}
-use borrow.Author.Tests.{lt-ltb, le-ltb, ltb-false}
+use borrow.Author.Tests.{lt-ltb, le-ltb}
 use Rattle.wire.specs.Told.{Told, done, verdict, answer}
 use Rattle.wire.specs.Coding.{check}
-use Rattle.wire.specs.ToldLaws.{let-refuse, stays, goes-on, holds, was-accepted, was-refused, let-through, same, one-to-one, answerOf, back-refused}
+use Rattle.wire.specs.ToldLaws.{let-refuse, stays, goes-on, was-accepted, was-refused, same, one-to-one, answerOf, back-refused}
 use Rattle.wire.specs.Layout.{put}
 use Rattle.wire.specs.LayoutLaws.{Bytes}
 use Rattle.wire.specs.FormatLaws as FormatLaws
 use Rattle.wire.specs.PartLaws as PartLaws
 use Rattle.wire.specs.declared.parts.View.{View}
 use Rattle.wire.specs.declared.refusals.Refusal.{Refusal}
-use Rattle.wire.specs.declared.refusals.Refusal.the-variants.{BufferTooSmall, InvalidFrame, InvalidMessageCode}
+use Rattle.wire.specs.declared.refusals.Refusal.the-variants.{InvalidFrame, InvalidMessageCode}
 use Rattle.wire.specs.declared.refusals.Verdict.{Verdict}
 use Rattle.wire.specs.declared.refusals.Verdict.the-variants.{Accept, Refuse}
 use Rattle.constants.specs.MessageCodes.{messageCodes, codeOf, messageOf}

@@ -1,6 +1,6 @@
 -- The C border, one row for each exported function, and the table's image: numbers and bytes typed from 01. The arguments and fields of a row differ, so that two exchanged in promise and code alike are found.
 use Prim.Native.Nat.{ℕ}
-use mathlib.Core.Path.{_≡_, refl}
+use mathlib.Core.Path.{refl}
 use mathlib.Core.List.{List, [], _∷_, _++_}
 use lib.ListN.{replicate}
 use Rattle.wire.specs.declared.refusals.Written.the-variants.{Bytes}
@@ -9,7 +9,6 @@ use Rattle.pci.specs.PciLaws.{tpciOf}
 use Rattle.tunnel.specs.declared.Wait.the-variants.{First, Second}
 use Rattle.table.specs.declared.places.Hold.the-variants.{Free, Held}
 use Rattle.table.specs.declared.places.Place.{Place}
-use Rattle.table.specs.declared.calls.Table.{Table}
 use Rattle.image.specs.Image as Image
 use Rattle.host.specs.Reading as Reading
 use Rattle.host.specs.CemiLData as CemiLData

@@ -66,9 +66,9 @@ use Rattle.tunnelling.specs.declared.ack.TunnelingAck.{TunnelingAck}
 use Rattle.tunnelling.specs.declared.ack.TunnelingAckAnswer.{TunnelingAckAnswer}
 use Rattle.tunnel_model.specs.Calls.{Call, outOf}
 use mathlib.Core.Bool.{Bool}
-use Rattle.kip_inspect.specs.Judge as Judge
+use Rattle.frame.specs.Judge as Judge
 use Rattle.kip_inspect.specs.Line as Line
-use Rattle.kip_inspect.specs.declared.judging.Judged.{Judged}
+use Rattle.frame.specs.declared.judging.Judged.{Judged}
 use denote.Ref.{now}
 use Rattle.datagram.specs.Heard as Heard
 use Rattle.datagram.specs.HeardLaws as HeardLaws
@@ -216,6 +216,10 @@ frame-body-part f s r e v q = q ∙ shown-refused (Frame.recordChecks f (length 
 pub frame-data-part : (f : FrameFields) (s r : List ℕ) (e : Refusal) → verdict (Frame.recordChecks f (length s)) ≡ Refuse e → Frame.DataPartPromise f s r → r ≡ []
 frame-data-part f s r e v q = q ∙ shown-refused (Frame.recordChecks f (length s)) (viewed 0 (f .header .«total_length»)) e s v
 
+-- frame::judge
+pub frame-judge : (s : List ℕ) (r : Judged) → Judge.JudgePromise s r → Refusing (Judge.told r)
+frame-judge s r = judged-refusing (Frame.checks (length s) (get Header.fields 0 s)) (done (Header.serviceIn (get Header.fields 0 s) ∷ Header.totalIn (get Header.fields 0 s) ∷ [])) (Judge.told r) refl
+
 -- frame::FrameBuilder::build
 pub frame-build : (f : FrameBuilder) (body b : List ℕ) (r : Written) (after : List ℕ) → Builder.BuildPromise f body b r after → Refusing (Written.told r) × Leaves (Written.told r) b after
 frame-build f body b = writes-refusing (Builder.checks (length body) (length b)) (Builder.frame (f .«service_type») body) b
@@ -319,10 +323,6 @@ pub tunnel-acknowledged : (t : Tunnel) (n status : ℕ) (r : Stepped) → Rules.
 tunnel-acknowledged = RuleLaws.acknowledged-done
 
 -- ---- kip
-
--- kip_inspect::judge
-pub kip-judge : (s : List ℕ) (r : Judged) → Judge.JudgePromise s r → Refusing (Judge.told r)
-kip-judge s r = judged-refusing (Frame.checks (length s) (get Header.fields 0 s)) (done (Header.serviceIn (get Header.fields 0 s) ∷ Header.totalIn (get Header.fields 0 s) ∷ [])) (Judge.told r) refl
 
 -- kip_inspect::line
 pub kip-line : (n : ℕ) (j : Judged) (out : List ℕ) (r : Written) (after : List ℕ) → Line.LinePromise n j out r after → Refusing (Written.told r) × Leaves (Written.told r) out after

@@ -1,5 +1,5 @@
 -- The empty versions that 01 shuts out, each by the predicate that ours has: demand 2 for parsers and builders, demand 3 for tables.
-use Prim.Native.Nat.{ℕ, suc, _+_, _≤_}
+use Prim.Native.Nat.{ℕ, suc, _≤_}
 use native.Mathlib.Omega.{arith}
 use mathlib.Core.Path.{_≡_, refl, sym, ap, _∙_}
 use mathlib.Core.Bool.{Bool, true, false}

@@ -15,7 +15,6 @@ use Rattle.connect.specs.Cri as Cri
 use Rattle.connect.specs.Request as ConnectReq
 use Rattle.connect.specs.Response as ConnectRes
 use Rattle.connect.specs.Channel as Channel
-use Rattle.connect.specs.declared.cri.ConnectionRequestInfo.{ConnectionRequestInfo}
 use Rattle.connect.specs.declared.cri.ConnectionRequestInfoAnswer.the-variants as I
 use Rattle.connect.specs.declared.channel.ConnectionStateAnswer.the-variants as State
 use Rattle.connect.specs.declared.channel.DisconnectAnswer.the-variants as Disconnect

@@ -1,8 +1,7 @@
 -- Names and numbers, typed once more from 01 and the KNX documents: each variant of each enum with its number, and each bit of the control fields. Two names exchanged in definition, code and law alike are found here.
 use Prim.Native.Nat.{ℕ}
 use mathlib.Core.Path.{_≡_, refl}
-use mathlib.Core.Bool.{Bool, true, false}
-use mathlib.Core.List.{List, [], _∷_}
+use mathlib.Core.Bool.{true, false}
 use Rattle.wire.specs.declared.refusals.Refusal.the-variants.{UnsupportedServiceType, InvalidMessageCode}
 use Rattle.constants.specs.Services as Services
 use Rattle.constants.specs.declared.ServiceType.the-variants as S

@@ -14,7 +14,7 @@ use Rattle.tunnel_model.specs.Firsts.{isNone}
 use Rattle.tunnel_model.specs.Store.{step}
 use Rattle.tunnel.specs.Numbers.{saidOf}
 use Rattle.tunnel_model.specs.Calls.{Call, Open, Close, Timeout, Send, Datagram, Outcome, refuses, says}
-use Rattle.tunnel_model.specs.Lone.{After, lone}
+use Rattle.tunnel_model.specs.Lone.{lone}
 use Rattle.tunnel_model.specs.Table.{chan, storeOf, emptyOf}
 use Rattle.table.specs.Places.{kind}
 use Rattle.table.specs.declared.places.Hold.the-variants.{Free, Held}

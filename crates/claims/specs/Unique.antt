@@ -78,8 +78,8 @@ use Rattle.tunnel.specs.declared.Tunnel.{Tunnel}
 use Rattle.tunnel_model.specs.Calls.{Call, Open, Close, Timeout, Send, Datagram}
 use Rattle.digits.specs.Digits as Digits
 use Rattle.kip.specs.Capture as Capture
-use Rattle.kip_inspect.specs.Judge as Judge
-use Rattle.kip_inspect.specs.JudgeLaws as JudgeLaws
+use Rattle.frame.specs.Judge as Judge
+use Rattle.frame.specs.JudgeLaws as JudgeLaws
 use Rattle.kip_inspect.specs.Line as Line
 use Rattle.kip_inspect.specs.LineLaws as LineLaws
 use Rattle.replay.specs.Telling as Telling
@@ -467,6 +467,10 @@ frame-data-part f s r q = same
 pub builder-new : One Builder.NewPromise
 builder-new s r q = same
 
+-- frame::judge
+pub frame-judge : One Judge.JudgePromise
+frame-judge = JudgeLaws.judge-one
+
 -- frame::FrameBuilder::build
 pub builder-build : Lent₂ Builder.BuildPromise
 builder-build = FrameLaws.build-one
@@ -723,10 +727,6 @@ kip-starts s r q = same
 -- kip::next_record
 pub kip-next-record : One₂ Capture.NextPromise
 kip-next-record s at r q = same
-
--- kip_inspect::judge
-pub kip-judge : One Judge.JudgePromise
-kip-judge = JudgeLaws.judge-one
 
 -- kip_inspect::line
 pub kip-line : Lent₂ Line.LinePromise

@@ -1,18 +1,15 @@
 -- Connection state and disconnect: requests come back from their frames, responses have their layout, and no second answer. Assumes nothing.
-use Prim.Native.Nat.{ℕ, _+_, _≤_}
+use Prim.Native.Nat.{ℕ}
 use native.Mathlib.Omega.{arith}
 use mathlib.Core.Path.{_≡_, refl, sym, ap, _∙_}
 use mathlib.Core.List.{List, [], _∷_, append-nil}
 use lib.ListN.{length, getD, take, drop}
-use lib.Dec.{ltb}
-use borrow.Author.Tests.{ltb-false}
-use Rattle.wire.specs.Told.{Told, done}
-use Rattle.wire.specs.ToldLaws.{one-to-one, answerOf, back-refused, holds, was-accepted, let-through, same}
-use Rattle.wire.specs.Layout.{put, get}
+use Rattle.wire.specs.Told.{Told}
+use Rattle.wire.specs.ToldLaws.{one-to-one, answerOf, back-refused, same}
+use Rattle.wire.specs.Layout.{put}
 use Rattle.wire.specs.FormatLaws as FormatLaws
-use Rattle.wire.specs.LayoutLaws.{Bytes, put-get}
+use Rattle.wire.specs.LayoutLaws.{Bytes}
 use Rattle.wire.specs.WrittenLaws.{writes-one}
-use Rattle.wire.specs.declared.refusals.Refusal.the-variants.{BufferTooSmall}
 use Rattle.wire.specs.declared.refusals.Written.{Written}
 use Rattle.wire.specs.declared.refusals.Written.the-variants as W
 use Rattle.constants.specs.declared.ServiceType.{ServiceType}

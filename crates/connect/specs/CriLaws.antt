@@ -1,22 +1,19 @@
 -- Request information both ways, and no second answer. Assumes nothing.
-use Prim.Native.Nat.{ℕ, _≤_}
-use native.Mathlib.Omega.{arith}
+use Prim.Native.Nat.{ℕ}
 use mathlib.Core.Path.{_≡_, refl, sym, ap, _∙_}
 use mathlib.Core.List.{List, [], _∷_, _++_}
 use lib.ListN.{length, getD, take, drop}
-use lib.Dec.{ltb}
-use borrow.Author.Tests.{le-ltb, ltb-false, eqb-true, not-false}
-use Rattle.wire.specs.Told.{Told, done, Check, differs, _⇒_, verdict}
-use Rattle.wire.specs.ToldLaws.{one-to-one, answerOf, back-refused, holds, let-pass, was-accepted, let-through, same}
-use Rattle.wire.specs.Layout.{put, get}
+use borrow.Author.Tests.{eqb-true, not-false}
+use Rattle.wire.specs.Told.{Told, differs}
+use Rattle.wire.specs.ToldLaws.{one-to-one, answerOf, back-refused, holds, same}
+use Rattle.wire.specs.Layout.{put}
 use Rattle.wire.specs.FormatLaws as FormatLaws
-use Rattle.wire.specs.LayoutLaws.{Bytes, put-get}
+use Rattle.wire.specs.LayoutLaws.{Bytes}
 use Rattle.wire.specs.WrittenLaws.{writes-one, wrote}
-use Rattle.wire.specs.declared.refusals.Refusal.the-variants.{BufferTooSmall, InvalidFrame}
-use Rattle.wire.specs.declared.refusals.Verdict.the-variants.{Accept}
+use Rattle.wire.specs.declared.refusals.Refusal.the-variants.{InvalidFrame}
 use Rattle.wire.specs.declared.refusals.Written.{Written}
 use Rattle.wire.specs.declared.refusals.Written.the-variants as W
-use Rattle.connect.specs.Cri.{fields, format, values, layout, held, checks, told, decodeBy01, DecodePromise, encodeChecks, EncodePromise}
+use Rattle.connect.specs.Cri.{fields, format, values, layout, told, decodeBy01, DecodePromise, encodeChecks, EncodePromise}
 use Rattle.connect.specs.declared.cri.ConnectionRequestInfo.{ConnectionRequestInfo}
 use Rattle.connect.specs.declared.cri.ConnectionRequestInfoAnswer.{ConnectionRequestInfoAnswer}
 use Rattle.connect.specs.declared.cri.ConnectionRequestInfoAnswer.the-variants.{Info, Refused}

@@ -5,14 +5,12 @@ use mathlib.Core.Path.{_≡_, refl, sym, ap, _∙_}
 use mathlib.Core.List.{List, [], _∷_, _++_, append-assoc}
 use lib.ListN.{length, getD, take, drop, length-append, length-drop}
 use lib.Seq.{take-at, drop-at, getD-at, length-take-le}
-use lib.Dec.{ltb}
-use borrow.Author.Tests.{le-ltb, eq-eqb, ltb-false}
-use Rattle.wire.specs.Told.{Told, done, Check, verdict, judged}
-use Rattle.wire.specs.ToldLaws.{refused-as, holds, let-pass, was-accepted, let-through, same}
+use borrow.Author.Tests.{le-ltb, eq-eqb}
+use Rattle.wire.specs.Told.{Told, done, verdict, judged}
+use Rattle.wire.specs.ToldLaws.{refused-as, let-pass, was-accepted, let-through, same}
 use Rattle.wire.specs.Layout.{runAt, put, get}
 use Rattle.wire.specs.FormatLaws as FormatLaws
-use Rattle.wire.specs.LayoutLaws.{Bytes, get-part, put-get, get-put, length-put}
-use Rattle.wire.specs.declared.refusals.Refusal.the-variants.{BufferTooSmall}
+use Rattle.wire.specs.LayoutLaws.{Bytes, get-part}
 use Rattle.wire.specs.declared.refusals.Verdict.the-variants.{Accept}
 use Rattle.hpai.specs.Hpai as Hpai
 use Rattle.hpai.specs.declared.Hpai.{Hpai}

@@ -4,7 +4,6 @@ use mathlib.Core.Path.{_≡_}
 use mathlib.Core.Bool.{Bool, cond}
 use mathlib.Core.List.{List, [], _∷_, _++_}
 use lib.ListN.{getD}
-use lib.Dec.{eqb, ltb}
 use Rattle.wire.specs.Told.{Told, Check, judged, refused}
 use Rattle.wire.specs.Layout.{get}
 use Rattle.wire.specs.declared.refusals.Refusal.{Refusal}

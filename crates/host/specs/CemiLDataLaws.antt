@@ -1,5 +1,5 @@
 -- From cEMI to L_Data at the border: how it goes on from the answers below, that the numbers read from the bytes agree with what the records below tell, and no second answer. Assumes nothing.
-use Prim.Native.Nat.{ℕ, zero, suc, _+_, _*_, _<_, _≤_, _/_, _%_}
+use Prim.Native.Nat.{ℕ, _+_, _≤_, _/_}
 use native.Mathlib.Omega.{arith}
 use mathlib.Core.Path.{_≡_, refl, sym, ap, _∙_}
 use mathlib.Core.Bool.{Bool, true, false, not, cond}

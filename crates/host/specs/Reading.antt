@@ -1,8 +1,10 @@
 -- What the border's readers promise, over the rules of the crates below: a frame, an Hpai, a connect response. Assumes nothing.
 use Prim.Native.Nat.{ℕ}
 use mathlib.Core.Path.{_≡_}
+use mathlib.Core.Bool.{cond}
 use mathlib.Core.List.{List, [], _∷_}
 use lib.ListN.{length}
+use lib.Dec.{eqb}
 use Rattle.wire.specs.Told.{Told, judged}
 use Rattle.wire.specs.Layout.{get}
 use Rattle.header.specs.Header.{fields, serviceIn, totalIn}
@@ -17,6 +19,10 @@ use Rattle.host.specs.declared.reading.KnxConnectResponse.{KnxConnectRes
 
 abbrev pub toldFrame : KnxFrame → Told
 toldFrame r = record { number = r .number; values = r .service ∷ r .total ∷ []; start = r .start; end = r .end }
+
+-- where the body starts, by the frame's number; a refused frame has none
+abbrev pub bodyStart : ℕ → ℕ
+bodyStart n = cond (eqb n 0) 6 0
 
 -- service and total length, and the body, which runs from offset 6 to the total length
 abbrev pub frameIn : List ℕ → Told

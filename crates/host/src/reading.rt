@@ -1,8 +1,7 @@
 // Reading: a frame, an Hpai, a connect response.
-ghost use Rattle.host.specs.Reading.{FramePromise, HpaiPromise, ConnectResponsePromise};
+ghost use mathlib.Core.Path.{_≡_};
+ghost use Rattle.host.specs.Reading.{bodyStart, FramePromise, HpaiPromise, ConnectResponsePromise};
 use connect::ConnectResponse;
-use frame::FrameAnswer;
-use frame::FrameFields;
 use hpai::Hpai;
 
 // A number of 01 and, beside 0, where the body stands, the service and the total length.
@@ -38,30 +37,25 @@ pub struct KnxConnectResponse {
     pub number: u8,
 }
 
-// The service is read off the bytes, which costs less than by way of its name.
 #[no_mangle]
 pub extern "C" fn knx_frame_parse(data: &[u8]) -> KnxFrame
     ensures { λ r. ⌜ FramePromise (now («data» .entry)) r ⌝ }
 {
-    match FrameFields::parse(data) {
-        FrameAnswer::Frame(frame) => {
-            let header = frame.header;
-            KnxFrame {
-                start: 6,
-                end: header.total_length as usize,
-                service: wire::word_at(data, 2),
-                total: header.total_length,
-                number: 0,
-            }
-        }
-        FrameAnswer::Refused(why) => KnxFrame {
-            start: 0,
-            end: 0,
-            service: 0,
-            total: 0,
-            number: why.number(),
-        },
+    let judged = frame::judge(data);
+    KnxFrame {
+        start: body_start(judged.number),
+        end: judged.total as usize,
+        service: judged.service,
+        total: judged.total,
+        number: judged.number,
     }
+}
+
+// The body starts behind the header; a refused frame has none.
+fn body_start(number: u8) -> usize
+    ensures { λ r. ⌜ r ≡ bodyStart number ⌝ }
+{
+    if number == 0 { 6 } else { 0 }
 }
 
 #[no_mangle]

@@ -1,22 +1,20 @@
 -- An Hpai both ways: what is written is read back, what is accepted has the layout of its answer; and no second answer. Assumes nothing.
-use Prim.Native.Nat.{ℕ, _-_, _≤_}
+use Prim.Native.Nat.{ℕ, _-_}
 use native.Mathlib.Omega.{arith}
 use mathlib.Core.Path.{_≡_, refl, sym, ap, _∙_}
 use mathlib.Core.List.{List, [], _∷_, _++_}
 use lib.ListN.{length, getD, take, drop, length-append}
 use lib.Seq.{getD-append-seam, take-append-seam}
-use lib.Dec.{ltb}
-use borrow.Author.Tests.{le-ltb, eq-eqb, ltb-false}
-use Rattle.wire.specs.Told.{Told, done, Check, verdict, judged}
-use Rattle.wire.specs.ToldLaws.{one-to-one, holds, let-pass, was-accepted, let-through, same}
-use Rattle.wire.specs.Layout.{highOf, lowOf, runAt, put, get}
+use borrow.Author.Tests.{eq-eqb}
+use Rattle.wire.specs.Told.{Told}
+use Rattle.wire.specs.ToldLaws.{one-to-one, same}
+use Rattle.wire.specs.Layout.{highOf, lowOf, runAt, put}
 use Rattle.wire.specs.FormatLaws as FormatLaws
-use Rattle.wire.specs.LayoutLaws.{Bytes, run-all, put-get, length-put, get-put}
+use Rattle.wire.specs.LayoutLaws.{Bytes, run-all, length-put}
 use Rattle.wire.specs.WrittenLaws.{writes-one, wrote}
-use Rattle.wire.specs.declared.refusals.Refusal.the-variants.{BufferTooSmall}
 use Rattle.wire.specs.declared.refusals.Written.{Written}
 use Rattle.wire.specs.declared.refusals.Written.the-variants as W
-use Rattle.hpai.specs.Hpai.{fields, format, values, layout, checks, told, parseBy01, ParsePromise, encodeChecks, EncodePromise}
+use Rattle.hpai.specs.Hpai.{fields, format, values, layout, told, parseBy01, ParsePromise, encodeChecks, EncodePromise}
 use Rattle.hpai.specs.declared.Hpai.{Hpai}
 use Rattle.hpai.specs.declared.HpaiAnswer.{HpaiAnswer}
 

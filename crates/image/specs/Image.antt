@@ -25,6 +25,21 @@ use Rattle.table.specs.declared.calls.Table.{Table}
 abbrev pub fields : List Field
 fields = byte ∷ byte ∷ byte ∷ byte ∷ byte ∷ []
 
+abbrev heldIn : List ℕ → ℕ
+heldIn vs = getD vs 0 0
+
+abbrev idIn : List ℕ → ℕ
+idIn vs = getD vs 1 0
+
+abbrev rIn : List ℕ → ℕ
+rIn vs = getD vs 2 0
+
+abbrev sIn : List ℕ → ℕ
+sIn vs = getD vs 3 0
+
+abbrev waitIn : List ℕ → ℕ
+waitIn vs = getD vs 4 0
+
 -- written: a free place is five zeros
 abbrev pub values : Hold → List ℕ
 values Free = 0 ∷ 0 ∷ 0 ∷ 0 ∷ 0 ∷ []
@@ -32,7 +47,7 @@ values (Held b t) = 1 ∷ b ∷ t .r ∷ t .s ∷ waitNumber (t .w) ∷ []
 
 -- read: 0 is free, whatever stands in the other four; every other number is held, and id, r and s mean themselves
 abbrev pub holdOf : List ℕ → Hold
-holdOf vs = cond (eqb (getD vs 0 0) 0) Free (Held (getD vs 1 0) (record { r = getD vs 2 0; s = getD vs 3 0; w = waitOf (getD vs 4 0) }))
+holdOf vs = cond (eqb (heldIn vs) 0) Free (Held (idIn vs) (record { r = rIn vs; s = sIn vs; w = waitOf (waitIn vs) }))
 
 abbrev pub layout : Place → List ℕ
 layout p = put fields (values (p .hold))

@@ -1,6 +1,4 @@
 -- What `kip_inspect` promises, in reading order: definitions, then laws.
-pub mod Judge
-pub mod JudgeLaws
 pub mod Line
 pub mod LineLaws
 pub mod Scan

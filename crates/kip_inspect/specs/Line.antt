@@ -9,8 +9,8 @@ use Rattle.wire.specs.Told.{Told}
 use Rattle.wire.specs.Written.{WritePromise}
 use Rattle.wire.specs.declared.refusals.Written.{Written}
 use Rattle.digits.specs.Digits.{decimal, hex4}
-use Rattle.kip_inspect.specs.Judge.{told}
-use Rattle.kip_inspect.specs.declared.judging.Judged.{Judged}
+use Rattle.frame.specs.Judge.{told}
+use Rattle.frame.specs.declared.judging.Judged.{Judged}
 
 -- "KIP 1", or "not KIP 1" for another start
 abbrev pub kipText : List ℕ

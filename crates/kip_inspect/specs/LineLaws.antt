@@ -18,7 +18,7 @@ use Rattle.wire.specs.declared.refusals.Written.{Written}
 use Rattle.wire.specs.declared.refusals.Written.the-variants.{Bytes, Refused}
 use Rattle.digits.specs.Digits.{decimal}
 use Rattle.kip_inspect.specs.Line.{headingOf, HeadingPromise, closing, numbered, serviceText, refusedText, lineOf, LinePromise, cutText, cutFront, endingOf, EndingPromise}
-use Rattle.kip_inspect.specs.declared.judging.Judged.{Judged}
+use Rattle.frame.specs.declared.judging.Judged.{Judged}
 
 pub closing-length : (text : List ℕ) (n : ℕ) → length (closing text n) ≡ length text + length (decimal n) + 1
 closing-length text n = length-three text (decimal n) (10 ∷ [])

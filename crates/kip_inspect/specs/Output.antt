@@ -5,7 +5,7 @@ use mathlib.Core.List.{List, [], _∷_, _++_}
 use lib.ListN.{length, drop}
 use lib.Dec.{ltb}
 use Rattle.kip.specs.Capture.{startsBy01, records, left}
-use Rattle.kip_inspect.specs.Judge.{judgeBy01}
+use Rattle.frame.specs.Judge.{judgeBy01}
 use Rattle.kip_inspect.specs.Line.{headingOf, lineTold, endingOf}
 
 -- the lines of records, numbered on from the n before them

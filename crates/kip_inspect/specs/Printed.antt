@@ -14,7 +14,7 @@ use Rattle.wire.specs.Layout.{wordAt, copied}
 use Rattle.wire.specs.LayoutLaws.{copied-is, copied-on}
 use Rattle.kip.specs.Capture.{whole, firstIn, restIn, records, left}
 use Rattle.kip.specs.CaptureLaws.{word-drop}
-use Rattle.kip_inspect.specs.Judge.{judgeBy01}
+use Rattle.frame.specs.Judge.{judgeBy01}
 use Rattle.kip_inspect.specs.Line.{lineTold}
 use Rattle.kip_inspect.specs.Output.{lines}
 use Rattle.kip.specs.Stepping.{Off, is-whole, first-off}

@@ -11,9 +11,9 @@ use Rattle.wire.specs.Written as Written
 use Rattle.wire.specs.declared.refusals.Refusal.the-variants.{BufferTooSmall}
 use Rattle.wire.specs.declared.refusals.Written.{Written}
 use Rattle.kip.specs.Capture.{whole, firstIn}
-use Rattle.kip_inspect.specs.Judge.{judgeBy01}
+use Rattle.frame.specs.Judge.{judgeBy01}
 use Rattle.kip_inspect.specs.Line.{lineTold, lineOf}
-use Rattle.kip_inspect.specs.declared.judging.Judged.{Judged}
+use Rattle.frame.specs.declared.judging.Judged.{Judged}
 use Rattle.kip_inspect.specs.declared.scanning.Spot.{Spot}
 use Rattle.kip_inspect.specs.declared.scanning.Scanned.{Scanned}
 use Rattle.kip_inspect.specs.declared.scanning.Stop.{Stop}

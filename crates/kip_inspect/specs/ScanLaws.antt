@@ -22,13 +22,13 @@ use Rattle.wire.specs.declared.refusals.Verdict.the-variants.{Accept, Refuse}
 use Rattle.wire.specs.declared.refusals.Written.{Written}
 use Rattle.wire.specs.declared.refusals.Written.the-variants.{Bytes, Refused}
 use Rattle.kip.specs.Capture.{whole, firstIn, NextPromise}
-use Rattle.kip_inspect.specs.Judge.{judgeBy01, JudgePromise}
+use Rattle.frame.specs.Judge.{judgeBy01, JudgePromise}
 use Rattle.kip_inspect.specs.Line.{lineTold, lineOf}
 use Rattle.kip.specs.Stepping.{Named, names}
 use Rattle.kip_inspect.specs.Scan.{Scan, most, lineAt, stopped, scanOf, PutLinePromise, ScanPromise}
 use Rattle.kip.specs.declared.capture.Next.the-variants.{Record}
 use Rattle.kip.specs.declared.capture.Next.the-variants as Next
-use Rattle.kip_inspect.specs.declared.judging.Judged.{Judged}
+use Rattle.frame.specs.declared.judging.Judged.{Judged}
 use Rattle.kip_inspect.specs.declared.scanning.Spot.{Spot}
 use Rattle.kip_inspect.specs.declared.scanning.Scanned.{Scanned}
 use Rattle.kip_inspect.specs.declared.scanning.Stop.the-variants.{Short, Full, Last}

@@ -5,7 +5,7 @@ ghost use lib.ListN.{length};
 ghost use Rattle.wire.specs.Layout.{CopyPromise};
 ghost use Rattle.digits.specs.Digits.{decimal};
 ghost use Rattle.kip_inspect.specs.Line.{HeadingPromise, closing, LinePromise, EndingPromise, NumberedPromise, CutSizePromise};
-use crate::judging::Judged;
+use frame::Judged;
 use wire::Refusal;
 use wire::Written;
 

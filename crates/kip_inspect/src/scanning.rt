@@ -1,8 +1,7 @@
 // The lines of a buffer's whole records, one behind the other.
 ghost use Rattle.kip_inspect.specs.Scan.{PutLinePromise, ScanPromise};
-use crate::judging;
-use crate::judging::Judged;
 use crate::lines;
+use frame::Judged;
 use kip::Next;
 use wire::Refusal;
 use wire::Written;
@@ -44,7 +43,7 @@ pub fn scan(input: &[u8], out: &mut [u8], spot: Spot) -> Scanned
                 if u64::MAX <= n {
                     break Stop::Last;
                 }
-                let judged = judging::judge(wire::part(input, start, end));
+                let judged = frame::judge(wire::part(input, start, end));
                 match put_line(n + 1, judged, out, used) {
                     Written::Refused(_) => break Stop::Full,
                     Written::Bytes(size) => {

@@ -5,7 +5,7 @@ use mathlib.Core.Bool.{Bool}
 use mathlib.Core.List.{List, [], _∷_}
 use mathlib.Core.Option.{Option}
 use Rattle.tunnel_model.specs.Firsts.{isNone}
-use Rattle.tunnel_model.specs.Store.{Chan, Machine, Seen, run, reached, names, seen, tableTrace, Isolates, Others, Opening, Opens}
+use Rattle.tunnel_model.specs.Store.{Chan, Machine, run, reached, names, seen, tableTrace, Isolates, Others, Opens}
 
 module _ (C : Chan) (M N : Machine C) where
   -- tables of M and N that hold the same channels, and what a call does to them

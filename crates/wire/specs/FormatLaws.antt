@@ -1,16 +1,16 @@
 -- Laws of every format, both ways: what is written is read back, and what is accepted has the layout of its values. Assumes nothing.
-use Prim.Native.Nat.{ℕ, _+_, _≤_}
+use Prim.Native.Nat.{ℕ, _≤_}
 use native.Mathlib.Omega.{arith}
 use mathlib.Core.Path.{_≡_, refl, sym, ap, _∙_}
 use mathlib.Core.Bool.{Bool, true, false, cond}
-use mathlib.Core.List.{List, [], _∷_, _++_}
+use mathlib.Core.List.{List, [], _++_}
 use lib.ListN.{length, take, length-append}
 use lib.Dec.{ltb}
 use borrow.Author.Tests.{le-ltb, ltb-false}
 use Rattle.wire.specs.Clash.{never}
-use Rattle.wire.specs.Told.{Told, done, Check, _⇒_, verdict, judged}
+use Rattle.wire.specs.Told.{Told, done, Check, verdict, judged}
 use Rattle.wire.specs.ToldLaws.{holds, let-pass, let-through, was-accepted}
-use Rattle.wire.specs.Layout.{size, put, get}
+use Rattle.wire.specs.Layout.{size, get}
 use Rattle.wire.specs.LayoutLaws.{Bytes, count, length-put, get-put, put-get}
 use Rattle.wire.specs.Format.{Format, checksOf, readBy01, bytesOf}
 use Rattle.wire.specs.declared.refusals.Refusal.the-variants.{BufferTooSmall}

@@ -2,13 +2,13 @@
 use Prim.Native.Nat.{ℕ, zero, suc, _≤_, _<_}
 use native.Mathlib.Omega.{arith}
 use mathlib.Core.Path.{_≡_, refl, ap}
-use mathlib.Core.Bool.{Bool, true, false, cond}
+use mathlib.Core.Bool.{Bool, true, false}
 use mathlib.Core.List.{List, [], _∷_}
 use lib.ListN.{length}
 use Rattle.wire.specs.Clash.{never}
 use Rattle.wire.specs.Told.{Check, _⇒_, verdict}
 use Rattle.wire.specs.Places.{place, brokenAt, verdictAt}
-use Rattle.wire.specs.declared.refusals.Verdict.the-variants.{Accept, Refuse}
+use Rattle.wire.specs.declared.refusals.Verdict.the-variants.{Accept}
 
 -- what is said of a list of checks
 pub record Decided (cs : List Check) : Type 0 where

@@ -29,6 +29,9 @@ array-read-t20 c = search needs
 slice-aggregate-numbered : tie.Need-slice-aggregate-numbered
 slice-aggregate-numbered c = search needs
 
+cast-numbered : tie.Need-cast-numbered
+cast-numbered c = search needs
+
 numbered-requires : tie.Need-numbered-requires
 numbered-requires c κs = search needs
 
@@ -37,17 +40,17 @@ same-length c = search needs
 
 returns : tie.Need-returns
 returns c =
-    let a = c .before .before .before .before .before .before .before .before .before .args in
+    let a = c .before .before .before .before .before .before .before .before .before .before .args in
     let j = a .judged in
     let one = c .before .before .numbered in
-    let service = ap (λ (l : List ℕ). numbered (a .n) (32 ∷ getD l 0 0 ∷ getD l 1 0 ∷ getD l 2 0 ∷ getD l 3 0 ∷ 32 ∷ []) (j .total)) (c .before .before .before .before .before .hex4 .ensures) in
-    subst (λ (w : List ℕ). WritePromise w (a .out .now) (one .result) (one .last .1 .1 .1 .0)) (service ∙ framed-line (a .n) j (eq-eqb _ _ (c .before .before .before .before .before .before .if1 .taken))) (one .ensures)
+    let service = ap (λ (l : List ℕ). numbered (a .n) (32 ∷ getD l 0 0 ∷ getD l 1 0 ∷ getD l 2 0 ∷ getD l 3 0 ∷ 32 ∷ []) (j .total)) (c .before .before .before .before .before .before .hex4 .ensures) in
+    subst (λ (w : List ℕ). WritePromise w (a .out .now) (one .result) (one .last .1 .1 .1 .0)) (service ∙ framed-line (a .n) j (eq-eqb _ _ (c .before .before .before .before .before .before .before .if1 .taken))) (one .ensures)
 
 slice-aggregate-numbered-2 : tie.Need-slice-aggregate-numbered-2
 slice-aggregate-numbered-2 c = search needs
 
-cast-numbered : tie.Need-cast-numbered
-cast-numbered c = search needs
+cast-numbered-2 : tie.Need-cast-numbered-2
+cast-numbered-2 c = search needs
 
 numbered-requires-2 : tie.Need-numbered-requires-2
 numbered-requires-2 c κs = search needs
@@ -71,11 +74,12 @@ line-spec =
     array-read-t17
     array-read-t20
     slice-aggregate-numbered
+    cast-numbered
     numbered-requires
     same-length
     returns
     slice-aggregate-numbered-2
-    cast-numbered
+    cast-numbered-2
     numbered-requires-2
     same-length-2
     returns-2)

@@ -6,7 +6,7 @@ use mathlib.Core.List.{List}
 use lib.ListN.{length}
 use Rattle.wire.specs.ToldLaws.{carried}
 use Rattle.kip.specs.Capture.{NextPromise}
-use Rattle.kip_inspect.specs.Judge.{JudgePromise}
+use Rattle.frame.specs.Judge.{JudgePromise}
 use Rattle.kip_inspect.specs.Scan.{scanOf}
 use Rattle.kip_inspect.specs.ScanLaws.{Turn, no-turn, turn-short, turn-last, turn-full, turn-hands, turn-fits}
 use borrow.Author.Needs.{needs}

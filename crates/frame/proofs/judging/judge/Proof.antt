@@ -3,24 +3,21 @@ use Prim.Native.Nat.{ℕ}
 use mathlib.Core.Path.{refl, ap, sym, _∙_}
 use mathlib.Core.List.{[], _∷_}
 use lib.ListN.{length}
-use Rattle.wire.specs.Told.{Told, done, viewed, verdict}
+use Rattle.wire.specs.Told.{Told, done}
 use Rattle.wire.specs.ToldLaws.{carried, let-pass, let-refuse, let-through, was-accepted, was-refused}
 use Rattle.wire.specs.Layout.{get}
-use Rattle.header.specs.Header.{fields, values, serviceIn, totalIn}
+use Rattle.header.specs.Header.{fields, serviceIn, totalIn}
 use Rattle.frame.specs.Frame as Frame
 use Rattle.frame.specs.declared.fields.FrameAnswer.the-variants.{Frame}
 use borrow.Author.Needs.{needs}
-use Rattle.kip_inspect.proofs.judging.judge.Statement.{statement}
-use Rattle.kip_inspect.proofs.judging.judge.Tie as tie
+use Rattle.frame.proofs.judging.judge.Statement.{statement}
+use Rattle.frame.proofs.judging.judge.Tie as tie
 
 parse-requires : tie.Need-parse-requires
 parse-requires c κs = search needs
 
 enum-known-frame : tie.Need-enum-known-frame
 enum-known-frame c = search needs
-
-data-requires : tie.Need-data-requires
-data-requires c κs = search needs
 
 word-at-requires : tie.Need-word-at-requires
 word-at-requires c κs = search needs
@@ -42,10 +39,8 @@ returns c =
     let t = Frame.told (Frame f) in
     let same = let-through cs (done vs) t refl p in
     let passed = was-accepted cs (done vs) t refl p in
-    let own = c .before .«data» in
-    let view = own .ensures ∙ let-pass (Frame.recordChecks f (length s)) (viewed 0 (f .header .«total_length»)) (ap (λ (u : Told). verdict (Frame.checks (length s) (u .values))) same ∙ passed) in
-    ap (λ (code : ℕ). done (code ∷ own .result .end ∷ [])) (c .word-at .ensures)
-    ∙ ap (λ (k : ℕ). done (serviceIn vs ∷ k ∷ [])) (ap (λ (u : Told). u .end) view ∙ ap (λ (u : Told). totalIn (u .values)) same)
+    ap (λ (code : ℕ). done (code ∷ f .header .«total_length» ∷ [])) (c .word-at .ensures)
+    ∙ ap (λ (u : Told). done (serviceIn vs ∷ totalIn (u .values) ∷ [])) same
     ∙ sym (let-pass cs (done (serviceIn vs ∷ totalIn vs ∷ [])) passed)
 
 returns-2 : tie.Need-returns-2
@@ -65,7 +60,6 @@ judge-spec =
     (tie.spec
     parse-requires
     enum-known-frame
-    data-requires
     word-at-requires
     enum-known-why
     number-requires

@@ -1,26 +1,26 @@
-// What the frame checks say of a record.
-ghost use Rattle.kip_inspect.specs.Judge.{JudgePromise};
-use frame::FrameAnswer;
-use frame::FrameFields;
+// What the frame checks say of a datagram, in numbers: for a caller that wants no names.
+ghost use Rattle.frame.specs.Judge.{JudgePromise};
+use crate::fields::FrameAnswer;
+use crate::fields::FrameFields;
 
 // A number of 01 and, where it is 0, the frame's service and total length.
 pub struct Judged {
     pub number: u8,
     pub service: u16,
-    pub total: usize,
+    pub total: u16,
 }
 
-// A record is refused by the frame checks alone. The service is read off the bytes, which costs less than by way of its name; the frame's own bytes may end before the record's.
+// The service is read off the bytes, which costs less than by way of its name; the frame's own bytes may end before the slice.
 pub fn judge(bytes: &[u8]) -> Judged
     ensures { λ r. ⌜ JudgePromise (now (bytes .entry)) r ⌝ }
 {
     match FrameFields::parse(bytes) {
         FrameAnswer::Frame(frame) => {
-            let own = frame.data(bytes);
+            let header = frame.header;
             Judged {
                 number: 0,
                 service: wire::word_at(bytes, 2),
-                total: own.end,
+                total: header.total_length,
             }
         }
         FrameAnswer::Refused(why) => Judged {

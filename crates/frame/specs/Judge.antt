@@ -1,4 +1,4 @@
--- "A record is refused by the frame checks alone": service and total length of the header, or the refusal. Assumes nothing.
+-- A datagram by the frame checks alone: service and total length of its header, or the refusal. Assumes nothing.
 use mathlib.Core.Path.{_≡_}
 use mathlib.Core.List.{List, [], _∷_}
 use Prim.Native.Nat.{ℕ}
@@ -6,8 +6,8 @@ use lib.ListN.{length}
 use Rattle.wire.specs.Told.{Told, done, judged}
 use Rattle.wire.specs.Layout.{get}
 use Rattle.header.specs.Header.{fields, serviceIn, totalIn}
 use Rattle.frame.specs.Frame as Frame
-use Rattle.kip_inspect.specs.declared.judging.Judged.{Judged}
+use Rattle.frame.specs.declared.judging.Judged.{Judged}
 
 abbrev pub told : Judged → Told
 told j = record { number = j .number; values = j .service ∷ j .total ∷ []; start = 0; end = 0 }
