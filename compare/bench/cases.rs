@@ -144,6 +144,8 @@ struct Datagrams {
     before: [Vec<Memory>; 2],
     now: [Vec<Memory>; 2],
     inputs: Inputs,
+    /// Whether all of them are refused; else none is.
+    refused: bool,
     out: [u8; 64],
 }
 
@@ -179,7 +181,7 @@ impl Work for Datagrams {
                 (call(DATAGRAM[side], memory, input, &mut out), out)
             });
             assert_eq!(a, b, "{input:02x?}");
-            assert_eq!(a.0.number, 0, "refused: {input:02x?}");
+            assert_eq!(a.0.number != 0, self.refused, "{input:02x?}");
         }
     }
 }
@@ -215,9 +217,9 @@ fn waiting_tables() -> [Memory; 2] {
     tables
 }
 
-fn datagrams(tables: [Memory; 2], memories: usize, inputs: Inputs) -> Datagrams {
+fn datagrams(tables: [Memory; 2], memories: usize, inputs: Inputs, refused: bool) -> Datagrams {
     let before = tables.map(|table| vec![table; memories]);
-    Datagrams { now: before.clone(), before, inputs, out: [0; 64] }
+    Datagrams { now: before.clone(), before, inputs, refused, out: [0; 64] }
 }
 
 // All of them
@@ -290,14 +292,16 @@ fn tunnelling() -> Vec<Case> {
         let id = IDS[rng.below(8)];
         inputs::tunnel_request(rng, id, 255)
     });
+    let refused = lay_out(CALLS, |_| inputs::refused_frame(rng));
     // Each ends its channel's waiting: a table for each call, and few enough to stay near.
     let calls = CALLS / 8;
     let acknowledge = lay_out(calls, |_| inputs::acknowledgement(IDS[rng.below(8)], 0));
     let (idle, waiting) = (full_tables(), waiting_tables());
     let function = "table_datagram";
     vec![
-        case("datagram, deliver", "60 ns", function, datagrams(idle, 1, deliver)),
-        case("datagram, duplicate", "60 ns", function, datagrams(idle, 1, duplicate)),
-        case("datagram, sent", "60 ns", function, datagrams(waiting, calls, acknowledge)),
+        case("datagram, deliver", "60 ns", function, datagrams(idle, 1, deliver, false)),
+        case("datagram, duplicate", "60 ns", function, datagrams(idle, 1, duplicate, false)),
+        case("datagram, sent", "60 ns", function, datagrams(waiting, calls, acknowledge, false)),
+        case("datagram, refused", "10 ns", function, datagrams(idle, 1, refused, true)),
     ]
 }
