@@ -588,3 +588,15 @@ host-table-calls = CalledLaws.call-refusing
 -- replay::line
 -- replay::number24
 -- replay::next
+-- variants::service
+-- variants::service_of
+-- variants::message_code
+-- variants::message_code_of
+-- variants::priority
+-- variants::priority_of
+-- variants::apci
+-- variants::apci_of
+-- variants::kind
+-- variants::sequence
+-- variants::tpci_of
+-- variants::refusal_of

@@ -82,6 +82,7 @@ use Rattle.frame.specs.Judge as Judge
 use Rattle.frame.specs.JudgeLaws as JudgeLaws
 use Rattle.kip_inspect.specs.Line as Line
 use Rattle.kip_inspect.specs.LineLaws as LineLaws
+use Rattle.variants.specs.Variants as Variants
 use Rattle.replay.specs.Telling as Telling
 use Rattle.replay.specs.Line as CallLine
 use Rattle.replay.specs.Laws as CallLaws
@@ -916,3 +917,53 @@ replay-number24 s r q = same
 -- replay::next
 pub replay-next : (r : Record) (args buf after later : List ℕ) → Records.NextPromise r args buf after → Records.NextPromise r args buf later → after ≡ later
 replay-next r args buf after later p q = same (p .filled) (q .filled)
+
+-- ---- variants: the numbers that recorded calls have for them
+
+-- variants::service
+pub variants-service : One Variants.ServicePromise
+variants-service a r q = same
+
+-- variants::service_of
+pub variants-service-of : One Variants.ServiceOfPromise
+variants-service-of a r q = same
+
+-- variants::message_code
+pub variants-message-code : One Variants.MessageCodePromise
+variants-message-code a r q = same
+
+-- variants::message_code_of
+pub variants-message-code-of : One Variants.MessageCodeOfPromise
+variants-message-code-of a r q = same
+
+-- variants::priority
+pub variants-priority : One Variants.PriorityPromise
+variants-priority a r q = same
+
+-- variants::priority_of
+pub variants-priority-of : One Variants.PriorityOfPromise
+variants-priority-of a r q = same
+
+-- variants::apci
+pub variants-apci : One Variants.ApciPromise
+variants-apci a r q = same
+
+-- variants::apci_of
+pub variants-apci-of : One₂ Variants.ApciOfPromise
+variants-apci-of a b r q = same
+
+-- variants::kind
+pub variants-kind : One Variants.KindPromise
+variants-kind a r q = same
+
+-- variants::sequence
+pub variants-sequence : One Variants.SequencePromise
+variants-sequence a r q = same
+
+-- variants::tpci_of
+pub variants-tpci-of : One₂ Variants.TpciOfPromise
+variants-tpci-of a b r q = same
+
+-- variants::refusal_of
+pub variants-refusal-of : One Variants.RefusalOfPromise
+variants-refusal-of a r q = same

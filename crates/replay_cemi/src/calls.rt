@@ -1,5 +1,4 @@
 // The calls of cemi.rs on codes, control fields, TPCI and APCI, 28 to 39.
-use crate::variants;
 use constants::CEMIMessageCode;
 use constants::CEMIMessageCodeAnswer;
 use constants::Priority;

@@ -1,5 +1,4 @@
 // The calls of frame.rs on headers and frames, 1 to 8. Argument bytes that are missing count as 0; another call gets a line that no call has.
-use crate::services;
 use constants::ServiceAnswer;
 use constants::ServiceType;
 use frame::FrameAnswer;
@@ -27,14 +26,14 @@ fn service_from(args: &[u8]) -> Told {
     match ServiceType::from_u16(wire::word_at(args, 0)) {
         ServiceAnswer::Service(s) => replay::few(
             2,
-            [services::number(s), s.to_u16() as usize, 0, 0],
+            [variants::service(s), s.to_u16() as usize, 0, 0],
         ),
         ServiceAnswer::Refused(why) => replay::refused(why, 2),
     }
 }
 
 fn service_at(args: &[u8], at: usize) -> ServiceType {
-    services::of(wire::byte_at(args, at))
+    variants::service_of(wire::byte_at(args, at))
 }
 
 fn header(h: KnxnetIpHeader, count: usize) -> Told {
@@ -44,7 +43,7 @@ fn header(h: KnxnetIpHeader, count: usize) -> Told {
         [
             h.header_length as usize,
             h.protocol_version as usize,
-            services::number(s),
+            variants::service(s),
             s.to_u16() as usize,
         ],
     );
@@ -121,7 +120,7 @@ fn frame_header(a: HeaderAnswer) -> Told {
 
 fn number_in(a: ServiceAnswer) -> usize {
     match a {
-        ServiceAnswer::Service(s) => services::number(s),
+        ServiceAnswer::Service(s) => variants::service(s),
         ServiceAnswer::Refused(_) => 0,
     }
 }

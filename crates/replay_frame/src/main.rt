@@ -1,7 +1,6 @@
 // Replays recorded calls of frame.rs, as compare/README.md lays them out, and writes a line for what each told:
 // what the Rust answers to the same records is beside it, in `stdout` for the fixed sample.
 mod calls;
-mod services;
 
 // Reads one record and answers it; false at the end.
 fn turn(args: &mut [u8], buf: &mut [u8], out: &mut [u8]) -> bool {

@@ -1,5 +1,4 @@
 // The calls of cemi.rs on L_Data and cEMI frames, 40 to 44, and the L_Data builder, 45.
-use crate::variants;
 use address::IndividualAddress;
 use cemi::CEMIAnswer;
 use cemi::CEMIFrame;

@@ -1,5 +1,4 @@
 // Frames whose fields no parse read, by the accessors of the fields.
-use crate::variants;
 use constants::ServiceAnswer;
 use frame::FrameFields;
 use header::HeaderAnswer;

@@ -1,6 +1,5 @@
 // Records that hold their slice and that no parse made: where the body and the data stand in what they hold.
 use crate::frames;
-use crate::variants;
 use address::IndividualAddress;
 use control::ControlField1;
 use control::ControlField2;

@@ -4,7 +4,6 @@ mod calls;
 mod frames;
 mod held;
 mod telegrams;
-mod variants;
 
 // Reads one record and answers it; false at the end.
 fn turn(args: &mut [u8], buf: &mut [u8], out: &mut [u8]) -> bool {

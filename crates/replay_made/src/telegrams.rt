@@ -1,5 +1,4 @@
 // cEMI and L_Data frames whose fields no parse read, by the accessors of the fields.
-use crate::variants;
 use address::IndividualAddress;
 use cemi::CEMIFrame;
 use cemi::InfoLengthAnswer;

@@ -1,11 +1,15 @@
-// The variants by the numbers that records and lines have for them, 1 and up in the order of 01, for APCI in that of cemi.rs: a match of its own for each, so that two variants in each other's place are seen.
+// The variants by the numbers that recorded calls and their lines have for them, 1 and up in the order of 01, for APCI in that of cemi.rs. They are no codes of KNX: each has a match of its own, so that two variants in each other's place are seen.
+ghost use Rattle.variants.specs.Variants.{ServicePromise, ServiceOfPromise, MessageCodePromise, MessageCodeOfPromise, PriorityPromise, PriorityOfPromise, ApciPromise, ApciOfPromise, KindPromise, SequencePromise, TpciOfPromise, RefusalOfPromise};
 use constants::CEMIMessageCode;
+use constants::Priority;
 use constants::ServiceType;
 use pci::Apci;
 use pci::Tpci;
 use wire::Refusal;
 
-pub(crate) fn service(service: ServiceType) -> usize {
+pub fn service(service: ServiceType) -> usize
+    ensures { λ r. ⌜ ServicePromise service r ⌝ }
+{
     match service {
         ServiceType::ConnectRequest => 1,
         ServiceType::ConnectResponse => 2,
@@ -19,7 +23,9 @@ pub(crate) fn service(service: ServiceType) -> usize {
 }
 
 // A record names a known one.
-pub(crate) fn service_of(number: u8) -> ServiceType {
+pub fn service_of(number: u8) -> ServiceType
+    ensures { λ r. ⌜ ServiceOfPromise number r ⌝ }
+{
     match number {
         1 => ServiceType::ConnectRequest,
         2 => ServiceType::ConnectResponse,
@@ -32,7 +38,9 @@ pub(crate) fn service_of(number: u8) -> ServiceType {
     }
 }
 
-pub(crate) fn message_code(code: CEMIMessageCode) -> usize {
+pub fn message_code(code: CEMIMessageCode) -> usize
+    ensures { λ r. ⌜ MessageCodePromise code r ⌝ }
+{
     match code {
         CEMIMessageCode::LDataReq => 1,
         CEMIMessageCode::LDataInd => 2,
@@ -45,7 +53,9 @@ pub(crate) fn message_code(code: CEMIMessageCode) -> usize {
 }
 
 // A record names a known one.
-pub(crate) fn message_code_of(number: u8) -> CEMIMessageCode {
+pub fn message_code_of(number: u8) -> CEMIMessageCode
+    ensures { λ r. ⌜ MessageCodeOfPromise number r ⌝ }
+{
     match number {
         1 => CEMIMessageCode::LDataReq,
         2 => CEMIMessageCode::LDataInd,
@@ -57,8 +67,33 @@ pub(crate) fn message_code_of(number: u8) -> CEMIMessageCode {
     }
 }
 
+pub fn priority(priority: Priority) -> usize
+    ensures { λ r. ⌜ PriorityPromise priority r ⌝ }
+{
+    match priority {
+        Priority::System => 1,
+        Priority::Normal => 2,
+        Priority::Urgent => 3,
+        Priority::Low => 4,
+    }
+}
+
+// A record names a known one.
+pub fn priority_of(number: u8) -> Priority
+    ensures { λ r. ⌜ PriorityOfPromise number r ⌝ }
+{
+    match number {
+        1 => Priority::System,
+        2 => Priority::Normal,
+        3 => Priority::Urgent,
+        _ => Priority::Low,
+    }
+}
+
 // 0 for `Unknown`, whatever its code.
-pub(crate) fn apci(apci: Apci) -> usize {
+pub fn apci(apci: Apci) -> usize
+    ensures { λ r. ⌜ ApciPromise apci r ⌝ }
+{
     match apci {
         Apci::Unknown(_) => 0,
         Apci::GroupValueRead => 1,
@@ -77,35 +112,9 @@ pub(crate) fn apci(apci: Apci) -> usize {
     }
 }
 
-pub(crate) fn kind(tpci: Tpci) -> usize {
-    match tpci {
-        Tpci::UnnumberedData => 0,
-        Tpci::NumberedData { sequence: _ } => 1,
-        Tpci::UnnumberedControl => 2,
-        Tpci::NumberedControl { sequence: _ } => 3,
-    }
-}
-
-// An unnumbered packet has none, which counts as 0.
-pub(crate) fn sequence(tpci: Tpci) -> usize {
-    match tpci {
-        Tpci::UnnumberedData => 0,
-        Tpci::NumberedData { sequence } => sequence as usize,
-        Tpci::UnnumberedControl => 0,
-        Tpci::NumberedControl { sequence } => sequence as usize,
-    }
-}
-
-pub(crate) fn tpci_of(kind: u8, sequence: u8) -> Tpci {
-    match kind {
-        0 => Tpci::UnnumberedData,
-        1 => Tpci::NumberedData { sequence },
-        2 => Tpci::UnnumberedControl,
-        _ => Tpci::NumberedControl { sequence },
-    }
-}
-
-pub(crate) fn apci_of(number: u8, code: u16) -> Apci {
+pub fn apci_of(number: u8, code: u16) -> Apci
+    ensures { λ r. ⌜ ApciOfPromise number code r ⌝ }
+{
     match number {
         1 => Apci::GroupValueRead,
         2 => Apci::GroupValueResponse,
@@ -124,7 +133,43 @@ pub(crate) fn apci_of(number: u8, code: u16) -> Apci {
     }
 }
 
-pub(crate) fn refusal_of(number: u8) -> Refusal {
+pub fn kind(tpci: Tpci) -> usize
+    ensures { λ r. ⌜ KindPromise tpci r ⌝ }
+{
+    match tpci {
+        Tpci::UnnumberedData => 0,
+        Tpci::NumberedData { sequence: _ } => 1,
+        Tpci::UnnumberedControl => 2,
+        Tpci::NumberedControl { sequence: _ } => 3,
+    }
+}
+
+// An unnumbered packet has none, which counts as 0.
+pub fn sequence(tpci: Tpci) -> usize
+    ensures { λ r. ⌜ SequencePromise tpci r ⌝ }
+{
+    match tpci {
+        Tpci::UnnumberedData => 0,
+        Tpci::NumberedData { sequence } => sequence as usize,
+        Tpci::UnnumberedControl => 0,
+        Tpci::NumberedControl { sequence } => sequence as usize,
+    }
+}
+
+pub fn tpci_of(kind: u8, sequence: u8) -> Tpci
+    ensures { λ r. ⌜ TpciOfPromise kind sequence r ⌝ }
+{
+    match kind {
+        0 => Tpci::UnnumberedData,
+        1 => Tpci::NumberedData { sequence },
+        2 => Tpci::UnnumberedControl,
+        _ => Tpci::NumberedControl { sequence },
+    }
+}
+
+pub fn refusal_of(number: u8) -> Refusal
+    ensures { λ r. ⌜ RefusalOfPromise number r ⌝ }
+{
     match number {
         1 => Refusal::BufferTooSmall,
         2 => Refusal::InvalidFrame,

@@ -1,0 +1,2 @@
+-- What `variants` promises.
+pub mod Variants
