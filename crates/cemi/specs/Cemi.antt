@@ -15,17 +15,17 @@ use Rattle.wire.specs.declared.refusals.Refusal.the-variants.{InvalidFrame, Inv
 use Rattle.wire.specs.declared.refusals.Verdict.{Verdict}
 use Rattle.wire.specs.declared.parts.View.{View}
 use Rattle.constants.specs.MessageCodes.{messageCodes, codeOf}
-use Rattle.constants.specs.declared.message_code.CEMIMessageCode.{CEMIMessageCode}
-use Rattle.constants.specs.declared.message_code.CEMIMessageCode.the-variants.{LDataReq, LDataInd, LDataCon, LRawReq, LRawInd, LRawCon, LBusmonInd}
+use Rattle.constants.specs.declared.message_codes.CEMIMessageCode.{CEMIMessageCode}
+use Rattle.constants.specs.declared.message_codes.CEMIMessageCode.the-variants.{LDataReq, LDataInd, LDataCon, LRawReq, LRawInd, LRawCon, LBusmonInd}
 use Rattle.ldata.specs.Count.{crateCount}
-use Rattle.ldata.specs.LData.{held, byteChecks}
+use Rattle.ldata.specs.LData.{valuesIn, byteChecks}
 use Rattle.ldata.specs.LData as LData
-use Rattle.ldata.specs.declared.fields.LDataAnswer.{LDataAnswer}
+use Rattle.ldata.specs.declared.ldata.LDataAnswer.{LDataAnswer}
 use Rattle.cemi.specs.declared.CEMIFrame.{CEMIFrame}
 use Rattle.cemi.specs.declared.CEMIAnswer.{CEMIAnswer}
-use Rattle.cemi.specs.declared.CEMIAnswer.the-variants as C
+use Rattle.cemi.specs.declared.CEMIAnswer.the-variants as CEMIAnswer
 use Rattle.cemi.specs.declared.InfoLengthAnswer.{InfoLengthAnswer}
-use Rattle.cemi.specs.declared.InfoLengthAnswer.the-variants as I
+use Rattle.cemi.specs.declared.InfoLengthAnswer.the-variants as InfoLengthAnswer
 
 -- message code, and the length of the additional information
 abbrev pub fields : List Field
@@ -39,7 +39,7 @@ infoIn vs = getD vs 1 0
 
 -- unknown message code (6); a record holds the code alone
 abbrev pub format : Format
-format = record { fields = fields; asks = λ vs. check messageCodes (messageIn vs) ∷ []; holds = λ vs. messageIn vs ∷ [] }
+format = record { fields = fields; asks = λ vs. check messageCodes (messageIn vs) ∷ []; valuesIn = λ vs. messageIn vs ∷ [] }
 
 abbrev pub codeIn : List ℕ → ℕ
 codeIn s = messageIn (get fields 0 s)
@@ -55,8 +55,8 @@ abbrev pub StandsPromise : List ℕ → Verdict → Type 0
 StandsPromise s r = r ≡ verdict (checks s)
 
 abbrev pub told : CEMIAnswer → Told
-told (C.Frame f) = done (codeOf (f .«message_code») ∷ [])
-told (C.Refused e) = refused 1 e
+told (CEMIAnswer.Frame f) = done (codeOf (f .«message_code») ∷ [])
+told (CEMIAnswer.Refused e) = refused 1 e
 
 abbrev pub parseBy01 : List ℕ → Told
 parseBy01 s = readBy01 format s
@@ -70,8 +70,8 @@ MessageCodePromise f r = r ≡ f .«message_code»
 -- ---- accessors that read through the slice repeat those checks, on the slice's own bytes
 
 abbrev pub toldLength : InfoLengthAnswer → Told
-toldLength (I.Length n) = done (n ∷ [])
-toldLength (I.Refused e) = refused 1 e
+toldLength (InfoLengthAnswer.Length n) = done (n ∷ [])
+toldLength (InfoLengthAnswer.Refused e) = refused 1 e
 
 abbrev pub InfoLengthPromise : List ℕ → InfoLengthAnswer → Type 0
 InfoLengthPromise s r = toldLength r ≡ judged (checks s) (done (infoLength s ∷ []))
@@ -113,7 +113,7 @@ ldataChecks f s = not (isLData (f .«message_code»)) ⇒ InvalidMessageCode ∷
 
 -- then L_Data on the rest
 abbrev pub asLDataBy01 : CEMIFrame → List ℕ → Told
-asLDataBy01 f s = judged (checks s ++ ldataChecks f s ++ byteChecks crateCount (serviceInfo s)) (done (held (serviceInfo s)))
+asLDataBy01 f s = judged (checks s ++ ldataChecks f s ++ byteChecks crateCount (serviceInfo s)) (done (valuesIn (serviceInfo s)))
 
 abbrev pub AsLDataPromise : CEMIFrame → List ℕ → LDataAnswer → Type 0
 AsLDataPromise f s r = LData.told r ≡ asLDataBy01 f s

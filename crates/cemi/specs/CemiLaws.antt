@@ -20,19 +20,19 @@ use Rattle.wire.specs.declared.refusals.Verdict.{Verdict}
 use Rattle.wire.specs.declared.refusals.Verdict.the-variants.{Accept, Refuse}
 use Rattle.constants.specs.MessageCodes.{messageCodes, codeOf, messageOf}
 use Rattle.constants.specs.MessageCodeLaws as MessageCodeLaws
-use Rattle.constants.specs.declared.message_code.CEMIMessageCode.{CEMIMessageCode}
+use Rattle.constants.specs.declared.message_codes.CEMIMessageCode.{CEMIMessageCode}
 use Rattle.ldata.specs.Count.{crateCount}
-use Rattle.ldata.specs.LData.{held, byteChecks}
+use Rattle.ldata.specs.LData.{valuesIn, byteChecks}
 use Rattle.ldata.specs.LData as LData
 use Rattle.ldata.specs.LDataLaws as LDataLaws
-use Rattle.ldata.specs.declared.fields.LDataAnswer.{LDataAnswer}
-use Rattle.ldata.specs.declared.fields.LDataAnswer.the-variants as L
+use Rattle.ldata.specs.declared.ldata.LDataAnswer.{LDataAnswer}
+use Rattle.ldata.specs.declared.ldata.LDataAnswer.the-variants as LDataAnswer
 use Rattle.cemi.specs.Cemi.{fields, format, codeIn, infoLength, checks, told, ParsePromise, toldLength, InfoLengthPromise, infoCheck, ServiceInfoPromise, isLData, serviceInfo, ldataChecks, AsLDataPromise}
 use Rattle.cemi.specs.declared.CEMIFrame.{CEMIFrame}
 use Rattle.cemi.specs.declared.CEMIAnswer.{CEMIAnswer}
-use Rattle.cemi.specs.declared.CEMIAnswer.the-variants as C
+use Rattle.cemi.specs.declared.CEMIAnswer.the-variants as CEMIAnswer
 use Rattle.cemi.specs.declared.InfoLengthAnswer.{InfoLengthAnswer}
-use Rattle.cemi.specs.declared.InfoLengthAnswer.the-variants as I
+use Rattle.cemi.specs.declared.InfoLengthAnswer.the-variants as InfoLengthAnswer
 
 -- ---- the two checks of a parse
 
@@ -40,10 +40,10 @@ use Rattle.cemi.specs.declared.InfoLengthAnswer.the-variants as I
 pub by-code : (s : List ℕ) → 2 ≤ length s → verdict (checks s) ≡ verdict (check messageCodes (codeIn s) ∷ [])
 by-code s two = simp (le-ltb (length s) 2 two)
 
-pub stood : (s : List ℕ) (f : CEMIFrame) → ParsePromise s (C.Frame f) → verdict (checks s) ≡ Accept
-stood s f p = was-accepted (checks s) (done (codeIn s ∷ [])) (told (C.Frame f)) refl p
+pub stood : (s : List ℕ) (f : CEMIFrame) → ParsePromise s (CEMIAnswer.Frame f) → verdict (checks s) ≡ Accept
+stood s f p = was-accepted (checks s) (done (codeIn s ∷ [])) (told (CEMIAnswer.Frame f)) refl p
 
-pub fell : (s : List ℕ) (e : Refusal) → ParsePromise s (C.Refused e) → verdict (checks s) ≡ Refuse e
+pub fell : (s : List ℕ) (e : Refusal) → ParsePromise s (CEMIAnswer.Refused e) → verdict (checks s) ≡ Refuse e
 fell s e p = was-refused (checks s) (done (codeIn s ∷ [])) 1 e refl p
 
 -- ---- on from them
@@ -57,18 +57,18 @@ long-enough s a e h = simp (le-ltb (length s) (2 + infoLength s) (omega (arith, 
 
 module _ (f : CEMIFrame) (s : List ℕ) where
   -- a refusal before L_Data is looked at
-  early : (e : Refusal) → verdict (checks s ++ ldataChecks f s) ≡ Refuse e → AsLDataPromise f s (L.Refused e)
+  early : (e : Refusal) → verdict (checks s ++ ldataChecks f s) ≡ Refuse e → AsLDataPromise f s (LDataAnswer.Refused e)
   early e q =
-      sym (let-refuse (checks s ++ ldataChecks f s ++ byteChecks crateCount (serviceInfo s)) (done (held (serviceInfo s))) e
+      sym (let-refuse (checks s ++ ldataChecks f s ++ byteChecks crateCount (serviceInfo s)) (done (valuesIn (serviceInfo s))) e
       (stays (checks s ++ ldataChecks f s) (byteChecks crateCount (serviceInfo s)) e q))
 
-  pub no-cemi : (e : Refusal) → verdict (checks s) ≡ Refuse e → AsLDataPromise f s (L.Refused e)
+  pub no-cemi : (e : Refusal) → verdict (checks s) ≡ Refuse e → AsLDataPromise f s (LDataAnswer.Refused e)
   no-cemi e q = early e (stays (checks s) (ldataChecks f s) e q)
 
-  pub no-ldata : verdict (checks s) ≡ Accept → not (isLData (f .«message_code»)) ≡ true → AsLDataPromise f s (L.Refused InvalidMessageCode)
+  pub no-ldata : verdict (checks s) ≡ Accept → not (isLData (f .«message_code»)) ≡ true → AsLDataPromise f s (LDataAnswer.Refused InvalidMessageCode)
   no-ldata q other = early InvalidMessageCode (goes-on (checks s) (ldataChecks f s) q ∙ simp other)
 
-  pub no-info : verdict (checks s) ≡ Accept → not (isLData (f .«message_code»)) ≡ false → verdict (infoCheck s ∷ []) ≡ Refuse InvalidFrame → AsLDataPromise f s (L.Refused InvalidFrame)
+  pub no-info : verdict (checks s) ≡ Accept → not (isLData (f .«message_code»)) ≡ false → verdict (infoCheck s ∷ []) ≡ Refuse InvalidFrame → AsLDataPromise f s (LDataAnswer.Refused InvalidFrame)
   no-info q this short = early InvalidFrame (goes-on (checks s) (ldataChecks f s) q ∙ simp this short)
 
   -- then L_Data on the rest
@@ -76,39 +76,39 @@ module _ (f : CEMIFrame) (s : List ℕ) where
       → LData.ParsePromise (serviceInfo s) r → AsLDataPromise f s r
   on-rest r q this enough p =
       let passed : verdict (checks s ++ ldataChecks f s) ≡ Accept = goes-on (checks s) (ldataChecks f s) q ∙ simp this enough in
-      p ∙ ap (λ (v : Verdict). answer v (done (held (serviceInfo s)))) (sym (goes-on (checks s ++ ldataChecks f s) (byteChecks crateCount (serviceInfo s)) passed))
+      p ∙ ap (λ (v : Verdict). answer v (done (valuesIn (serviceInfo s)))) (sym (goes-on (checks s ++ ldataChecks f s) (byteChecks crateCount (serviceInfo s)) passed))
 
 -- ---- what is accepted
 
 -- the first two bytes are the code and the length
-pub has-layout : (s : List ℕ) (f : CEMIFrame) → Bytes s → ParsePromise s (C.Frame f) → take 2 s ≡ put fields (codeOf (f .«message_code») ∷ infoLength s ∷ [])
-has-layout s f b p = let x = FormatLaws.accepted format s (told (C.Frame f)) refl p in x .bytes b ∙ ap (λ (t : Told). put fields (getD (t .values) 0 0 ∷ infoLength s ∷ [])) (sym (x .told-is))
+pub has-layout : (s : List ℕ) (f : CEMIFrame) → Bytes s → ParsePromise s (CEMIAnswer.Frame f) → take 2 s ≡ put fields (codeOf (f .«message_code») ∷ infoLength s ∷ [])
+has-layout s f b p = let x = FormatLaws.accepted format s (told (CEMIAnswer.Frame f)) refl p in x .bytes b ∙ ap (λ (t : Told). put fields (getD (t .values) 0 0 ∷ infoLength s ∷ [])) (sym (x .told-is))
 
 -- ---- no second answer
 
 answered : List ℕ → CEMIAnswer
-answered vs = C.Frame (record { «message_code» = messageOf (getD vs 0 0) })
+answered vs = CEMIAnswer.Frame (record { «message_code» = messageOf (getD vs 0 0) })
 
-told-back : (r : CEMIAnswer) → answerOf answered C.Refused (told r) ≡ r
+told-back : (r : CEMIAnswer) → answerOf answered CEMIAnswer.Refused (told r) ≡ r
 unfolding answered
-told-back (C.Frame f) = ap (λ (m : CEMIMessageCode). C.Frame (record { «message_code» = m })) (MessageCodeLaws.back (f .«message_code»))
-told-back (C.Refused e) = back-refused answered C.Refused 1 e
+told-back (CEMIAnswer.Frame f) = ap (λ (m : CEMIMessageCode). CEMIAnswer.Frame (record { «message_code» = m })) (MessageCodeLaws.back (f .«message_code»))
+told-back (CEMIAnswer.Refused e) = back-refused answered CEMIAnswer.Refused 1 e
 
 pub told-one : (r q : CEMIAnswer) → told r ≡ told q → r ≡ q
-told-one = one-to-one told (answerOf answered C.Refused) told-back
+told-one = one-to-one told (answerOf answered CEMIAnswer.Refused) told-back
 
 pub parse-one : (s : List ℕ) (r q : CEMIAnswer) → ParsePromise s r → ParsePromise s q → r ≡ q
 parse-one s r q a b = told-one r q (same a b)
 
 abbrev lengthOf : List ℕ → InfoLengthAnswer
-lengthOf vs = I.Length (getD vs 0 0)
+lengthOf vs = InfoLengthAnswer.Length (getD vs 0 0)
 
-length-back : (r : InfoLengthAnswer) → answerOf lengthOf I.Refused (toldLength r) ≡ r
-length-back (I.Length n) = refl
-length-back (I.Refused e) = back-refused lengthOf I.Refused 1 e
+length-back : (r : InfoLengthAnswer) → answerOf lengthOf InfoLengthAnswer.Refused (toldLength r) ≡ r
+length-back (InfoLengthAnswer.Length n) = refl
+length-back (InfoLengthAnswer.Refused e) = back-refused lengthOf InfoLengthAnswer.Refused 1 e
 
 pub info-length-one : (s : List ℕ) (r q : InfoLengthAnswer) → InfoLengthPromise s r → InfoLengthPromise s q → r ≡ q
-info-length-one s r q a b = one-to-one toldLength (answerOf lengthOf I.Refused) length-back r q (same a b)
+info-length-one s r q a b = one-to-one toldLength (answerOf lengthOf InfoLengthAnswer.Refused) length-back r q (same a b)
 
 pub service-info-one : (s : List ℕ) (r q : View) → ServiceInfoPromise s r → ServiceInfoPromise s q → r ≡ q
 service-info-one s r q a b = PartLaws.told-one r q (same a b)

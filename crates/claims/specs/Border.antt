@@ -6,28 +6,28 @@ use lib.ListN.{replicate}
 use Rattle.wire.specs.declared.refusals.Written.the-variants.{Bytes}
 use Rattle.constants.specs.MessageCodes.{messageOf}
 use Rattle.pci.specs.PciLaws.{tpciOf}
-use Rattle.tunnel.specs.declared.Wait.the-variants.{First, Second}
-use Rattle.table.specs.declared.places.Hold.the-variants.{Free, Held}
-use Rattle.table.specs.declared.places.Place.{Place}
-use Rattle.image.specs.Image as Image
-use Rattle.host.specs.Reading as Reading
-use Rattle.host.specs.CemiLData as CemiLData
-use Rattle.host.specs.Building as Building
-use Rattle.host.specs.Called as Called
-use Rattle.host.specs.declared.building.KnxWritten.{KnxWritten}
-use Rattle.host.specs.declared.building.KnxEndpoint.{KnxEndpoint}
-use Rattle.host.specs.declared.called.KnxCalled.{KnxCalled}
+use Rattle.tunnel.specs.declared.rules.Wait.the-variants.{First, Second}
+use Rattle.tunnel_table.specs.declared.places.Hold.the-variants.{Free, Held}
+use Rattle.tunnel_table.specs.declared.places.Place.{Place}
+use Rattle.tunnel_image.specs.Image as Image
+use Rattle.knx.specs.Reading as KnxReading
+use Rattle.knx.specs.CemiLData as CemiLData
+use Rattle.knx.specs.Building as Building
+use Rattle.knx.specs.Called as Called
+use Rattle.knx.specs.declared.building.KnxWritten.{KnxWritten}
+use Rattle.knx.specs.declared.building.KnxEndpoint.{KnxEndpoint}
+use Rattle.knx.specs.declared.called.KnxCalled.{KnxCalled}
 use Rattle.claims.specs.Layouts.{endpointBytes, nines, stamped}
 
 -- ---- reading
 
 pub record Reads : Type 0 where
   -- an acknowledgement's eleven bytes and one more
-  pub frame : Reading.FramePromise (0x06 ∷ 0x10 ∷ 0x04 ∷ 0x21 ∷ 0x00 ∷ 0x0B ∷ 0x04 ∷ 0x15 ∷ 0x07 ∷ 0x00 ∷ 0x00 ∷ 0xEE ∷ [])
+  pub frame : KnxReading.FramePromise (0x06 ∷ 0x10 ∷ 0x04 ∷ 0x21 ∷ 0x00 ∷ 0x0B ∷ 0x04 ∷ 0x15 ∷ 0x07 ∷ 0x00 ∷ 0x00 ∷ 0xEE ∷ [])
       (record { start = 6; end = 11; service = 0x0421; total = 11; number = 0 })
-  pub hpai : Reading.HpaiPromise endpointBytes
+  pub hpai : KnxReading.HpaiPromise endpointBytes
       (record { «structure_length» = 8; «host_protocol» = 1; address = 192 ∷ 168 ∷ 1 ∷ 2 ∷ []; port = 3671; number = 0 })
-  pub connect-response : Reading.ConnectResponsePromise (0x15 ∷ 0x00 ∷ endpointBytes ++ 0x04 ∷ 0x05 ∷ 0x11 ∷ 0x0A ∷ [])
+  pub connect-response : KnxReading.ConnectResponsePromise (0x15 ∷ 0x00 ∷ endpointBytes ++ 0x04 ∷ 0x05 ∷ 0x11 ∷ 0x0A ∷ [])
       (record {
         channel = 0x15;
         status = 0;

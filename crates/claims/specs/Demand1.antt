@@ -5,8 +5,8 @@ use mathlib.Core.List.{List, [], _∷_, _++_}
 use lib.ListN.{length}
 use Rattle.wire.specs.Told.{done, refused, viewed, verdict}
 use Rattle.wire.specs.Layout.{get}
-use Rattle.wire.specs.Written.{WritePromise, room}
-use Rattle.wire.specs.Written as Written
+use Rattle.wire.specs.Writing.{WritePromise, room}
+use Rattle.wire.specs.Writing as Writing
 use Rattle.wire.specs.Parts as Parts
 use Rattle.wire.specs.PartLaws.{shown-refused}
 use Rattle.wire.specs.declared.refusals.Refusal.{Refusal}
@@ -19,15 +19,15 @@ use Rattle.constants.specs.Services.{serviceCheck, codeOf}
 use Rattle.constants.specs.Services as Services
 use Rattle.wire.specs.Coding.{check}
 use Rattle.constants.specs.MessageCodes as MessageCodes
-use Rattle.constants.specs.declared.message_code.CEMIMessageCodeAnswer.{CEMIMessageCodeAnswer}
-use Rattle.constants.specs.declared.ServiceType.{ServiceType}
-use Rattle.constants.specs.declared.ServiceAnswer.{ServiceAnswer}
+use Rattle.constants.specs.declared.message_codes.CEMIMessageCodeAnswer.{CEMIMessageCodeAnswer}
+use Rattle.constants.specs.declared.services.ServiceType.{ServiceType}
+use Rattle.constants.specs.declared.services.ServiceAnswer.{ServiceAnswer}
 use Rattle.pci.specs.Transport.{isData}
 use Rattle.ldata.specs.Count.{startOf, crateCount}
 use Rattle.ldata.specs.LData as LData
 use Rattle.ldata.specs.Builder as LDataBuilder
-use Rattle.ldata.specs.declared.fields.LDataFields.{LDataFields}
-use Rattle.ldata.specs.declared.fields.LDataAnswer.{LDataAnswer}
+use Rattle.ldata.specs.declared.ldata.LDataFields.{LDataFields}
+use Rattle.ldata.specs.declared.ldata.LDataAnswer.{LDataAnswer}
 use Rattle.ldata.specs.declared.builder.LDataBuilder.{LDataBuilder}
 use Rattle.cemi.specs.Cemi as Cemi
 use Rattle.cemi.specs.declared.CEMIFrame.{CEMIFrame}
@@ -37,17 +37,18 @@ use Rattle.header.specs.Header as Header
 use Rattle.header.specs.declared.KnxnetIpHeader.{KnxnetIpHeader}
 use Rattle.header.specs.declared.HeaderAnswer.{HeaderAnswer}
 use Rattle.frame.specs.Frame as Frame
-use Rattle.frame.specs.Builder as Builder
-use Rattle.frame.specs.declared.fields.FrameFields.{FrameFields}
-use Rattle.frame.specs.declared.fields.FrameAnswer.{FrameAnswer}
+use Rattle.frame.specs.Builder as FrameBuilder
+use Rattle.frame.specs.Write as Write
+use Rattle.frame.specs.declared.frame.FrameFields.{FrameFields}
+use Rattle.frame.specs.declared.frame.FrameAnswer.{FrameAnswer}
 use Rattle.frame.specs.declared.builder.FrameBuilder.{FrameBuilder}
 use Rattle.hpai.specs.Hpai as Hpai
 use Rattle.hpai.specs.declared.Hpai.{Hpai}
 use Rattle.hpai.specs.declared.HpaiAnswer.{HpaiAnswer}
-use Rattle.constants.specs.declared.ServiceType.the-variants as S
+use Rattle.constants.specs.declared.services.ServiceType.the-variants as ServiceType
 use Rattle.connect.specs.Cri as Cri
-use Rattle.connect.specs.Request as ConnectReq
-use Rattle.connect.specs.Response as ConnectRes
+use Rattle.connect.specs.Request as ConnectRequest
+use Rattle.connect.specs.Response as ConnectResponse
 use Rattle.connect.specs.Channel as Channel
 use Rattle.connect.specs.declared.cri.ConnectionRequestInfo.{ConnectionRequestInfo}
 use Rattle.connect.specs.declared.cri.ConnectionRequestInfoAnswer.{ConnectionRequestInfoAnswer}
@@ -56,8 +57,8 @@ use Rattle.connect.specs.declared.response.ConnectResponseAnswer.{ConnectRespon
 use Rattle.connect.specs.declared.channel.ConnectionStateAnswer.{ConnectionStateAnswer}
 use Rattle.connect.specs.declared.channel.DisconnectAnswer.{DisconnectAnswer}
 use Rattle.tunnelling.specs.Connection as Connection
-use Rattle.tunnelling.specs.Request as TunnelReq
-use Rattle.tunnelling.specs.Ack as Ack
+use Rattle.tunnelling.specs.Request as TunnelingRequest
+use Rattle.tunnelling.specs.Ack as TunnelingAck
 use Rattle.tunnelling.specs.declared.connection.ConnectionHeader.{ConnectionHeader}
 use Rattle.tunnelling.specs.declared.connection.ConnectionHeaderAnswer.{ConnectionHeaderAnswer}
 use Rattle.tunnelling.specs.declared.request.TunnelingRequest.{TunnelingRequest}
@@ -66,47 +67,47 @@ use Rattle.tunnelling.specs.declared.ack.TunnelingAck.{TunnelingAck}
 use Rattle.tunnelling.specs.declared.ack.TunnelingAckAnswer.{TunnelingAckAnswer}
 use Rattle.tunnel_model.specs.Calls.{Call, outOf}
 use mathlib.Core.Bool.{Bool}
-use Rattle.frame.specs.Judge as Judge
-use Rattle.kip_inspect.specs.Line as Line
+use Rattle.frame.specs.Judging as Judging
+use Rattle.inspection.specs.Lines as InspectionLines
 use Rattle.frame.specs.declared.judging.Judged.{Judged}
 use denote.Ref.{now}
-use Rattle.datagram.specs.Heard as Heard
-use Rattle.datagram.specs.HeardLaws as HeardLaws
-use Rattle.datagram.specs.declared.Heard.{Heard}
+use Rattle.tunnel_datagram.specs.Hearing as Hearing
+use Rattle.tunnel_datagram.specs.HearingLaws as HearingLaws
+use Rattle.tunnel_datagram.specs.declared.hearing.Heard.{Heard}
 use Rattle.tunnel.specs.Rules as Rules
 use Rattle.tunnel.specs.RuleLaws as RuleLaws
-use Rattle.tunnel.specs.declared.Tunnel.{Tunnel}
-use Rattle.tunnel.specs.declared.Stepped.{Stepped}
-use Rattle.frame.specs.declared.fields.FrameAnswer.the-variants as FA
-use Rattle.ldata.specs.declared.fields.LDataAnswer.the-variants as LA
-use Rattle.views.specs.KnxnetIp as KnxnetIp
-use Rattle.views.specs.KnxnetIpLaws as KnxnetIpLaws
-use Rattle.views.specs.LData as LDataView
-use Rattle.views.specs.LDataLaws as LDataViewLaws
-use Rattle.views.specs.declared.knxnet_ip.KnxnetIpFrame.{KnxnetIpFrame}
-use Rattle.views.specs.declared.l_data.LDataFrame.{LDataFrame}
-use Rattle.table.specs.Table.{CallPromise}
-use Rattle.table.specs.Table as Table
-use Rattle.table.specs.Compiled as Compiled
-use Rattle.table.specs.declared.calls.Table.{Table}
-use Rattle.table.specs.declared.calls.Called.{Called}
-use Rattle.table.specs.declared.places.Place.{Place}
+use Rattle.tunnel.specs.declared.rules.Tunnel.{Tunnel}
+use Rattle.tunnel.specs.declared.rules.Stepped.{Stepped}
+use Rattle.frame.specs.declared.frame.FrameAnswer.the-variants as FrameAnswer
+use Rattle.ldata.specs.declared.ldata.LDataAnswer.the-variants as LDataAnswer
+use Rattle.borrowed.specs.KnxnetIpFrame as KnxnetIpFrame
+use Rattle.borrowed.specs.KnxnetIpFrameLaws as KnxnetIpFrameLaws
+use Rattle.borrowed.specs.LDataFrame as LDataFrame
+use Rattle.borrowed.specs.LDataFrameLaws as LDataFrameLaws
+use Rattle.borrowed.specs.declared.knxnet_ip_frame.KnxnetIpFrame.{KnxnetIpFrame}
+use Rattle.borrowed.specs.declared.ldata_frame.LDataFrame.{LDataFrame}
+use Rattle.tunnel_table.specs.Table.{CallPromise}
+use Rattle.tunnel_table.specs.Table as Table
+use Rattle.tunnel_table.specs.Compiled as Compiled
+use Rattle.tunnel_table.specs.declared.table.Table.{Table}
+use Rattle.tunnel_table.specs.declared.table.Called.{Called}
+use Rattle.tunnel_table.specs.declared.places.Place.{Place}
 use Rattle.tunnel_model.specs.Table.{emptyOf}
-use Rattle.table.specs.Places.{kind}
-use Rattle.image.specs.Image as Image
-use Rattle.host.specs.Reading as Reading
-use Rattle.host.specs.CemiLData as CemiLData
-use Rattle.host.specs.Building as Building
-use Rattle.host.specs.BuildingLaws.{tells-refusing}
-use Rattle.host.specs.Called as HostCalled
-use Rattle.host.specs.CalledLaws as CalledLaws
-use Rattle.host.specs.declared.reading.KnxFrame.{KnxFrame}
-use Rattle.host.specs.declared.reading.KnxHpai.{KnxHpai}
-use Rattle.host.specs.declared.reading.KnxConnectResponse.{KnxConnectResponse}
-use Rattle.host.specs.declared.cemi_ldata.KnxLData.{KnxLData}
-use Rattle.host.specs.declared.building.KnxWritten.{KnxWritten}
-use Rattle.host.specs.declared.building.KnxEndpoint.{KnxEndpoint}
-use Rattle.host.specs.declared.called.KnxCalled.{KnxCalled}
+use Rattle.tunnel_table.specs.Places.{kind}
+use Rattle.tunnel_image.specs.Image as Image
+use Rattle.knx.specs.Reading as KnxReading
+use Rattle.knx.specs.CemiLData as CemiLData
+use Rattle.knx.specs.Building as Building
+use Rattle.knx.specs.BuildingLaws.{tells-refusing}
+use Rattle.knx.specs.Called as Called
+use Rattle.knx.specs.CalledLaws as CalledLaws
+use Rattle.knx.specs.declared.reading.KnxFrame.{KnxFrame}
+use Rattle.knx.specs.declared.reading.KnxHpai.{KnxHpai}
+use Rattle.knx.specs.declared.reading.KnxConnectResponse.{KnxConnectResponse}
+use Rattle.knx.specs.declared.cemi_ldata.KnxLData.{KnxLData}
+use Rattle.knx.specs.declared.building.KnxWritten.{KnxWritten}
+use Rattle.knx.specs.declared.building.KnxEndpoint.{KnxEndpoint}
+use Rattle.knx.specs.declared.called.KnxCalled.{KnxCalled}
 
 -- ---- wire
 
@@ -115,7 +116,7 @@ pub view-refused : (e : Refusal) (r : View) → Parts.RefusedPromise e r → Zer
 view-refused e r p = rw p (refused-zeros 0 e)
 
 -- wire::write
-pub write : (w b : List ℕ) (r : Written) (after : List ℕ) → WritePromise w b r after → Refusing (Written.told r) × Leaves (Written.told r) b after
+pub write : (w b : List ℕ) (r : Written) (after : List ℕ) → WritePromise w b r after → Refusing (Writing.told r) × Leaves (Writing.told r) b after
 write w b = writes-refusing (room (length w) (length b) ∷ []) w b
 
 -- ---- constants
@@ -132,7 +133,7 @@ message-code-from n r = judged-refusing (check MessageCodes.messageCodes n ∷ [
 
 -- ldata::LDataFields::parse
 pub ldata-parse : (s : List ℕ) (r : LDataAnswer) → LData.ParsePromise s r → Refusing (LData.told r)
-ldata-parse s r = judged-refusing (LData.byteChecks crateCount s) (done (LData.held s)) (LData.told r) refl
+ldata-parse s r = judged-refusing (LData.byteChecks crateCount s) (done (LData.valuesIn s)) (LData.told r) refl
 
 -- ldata::LDataFields::data
 pub ldata-data : (f : LDataFields) (s : List ℕ) (r : View) → LData.DataPromise f s r → Refusing (Parts.told r)
@@ -146,7 +147,7 @@ ldata-data-part f s r e p q =
 
 -- ldata::LDataBuilder::build
 pub ldata-build : (b : LDataBuilder) (d buf : List ℕ) (r : Written) (after : List ℕ)
-    → LDataBuilder.BuildPromise b d buf r after → Refusing (Written.told r) × Leaves (Written.told r) buf after
+    → LDataBuilder.BuildPromise b d buf r after → Refusing (Writing.told r) × Leaves (Writing.told r) buf after
 ldata-build b d buf = writes-refusing (LDataBuilder.checks b (length d) (length buf)) (LDataBuilder.layout b (length d + 2) d) buf
 
 -- ---- cemi
@@ -170,7 +171,7 @@ cemi-service-info-part s r e p q = p ∙ shown-refused (Cemi.checks s ++ Cemi.in
 -- cemi::CEMIFrame::as_ldata
 pub cemi-as-ldata : (f : CEMIFrame) (s : List ℕ) (r : LDataAnswer) → Cemi.AsLDataPromise f s r → Refusing (LData.told r)
 cemi-as-ldata f s r =
-    judged-refusing (Cemi.checks s ++ Cemi.ldataChecks f s ++ LData.byteChecks crateCount (Cemi.serviceInfo s)) (done (LData.held (Cemi.serviceInfo s))) (LData.told r) refl
+    judged-refusing (Cemi.checks s ++ Cemi.ldataChecks f s ++ LData.byteChecks crateCount (Cemi.serviceInfo s)) (done (LData.valuesIn (Cemi.serviceInfo s))) (LData.told r) refl
 
 -- ---- header
 
@@ -183,7 +184,7 @@ pub header-parse : (s : List ℕ) (r : HeaderAnswer) → Header.ParsePromise s r
 header-parse s r = judged-refusing (Header.checks (length s) (get Header.fields 0 s)) (done (get Header.fields 0 s)) (Header.told r) refl
 
 -- header::KnxnetIpHeader::encode
-pub header-encode : (h : KnxnetIpHeader) (b : List ℕ) (r : Written) (after : List ℕ) → Header.EncodePromise h b r after → Refusing (Written.told r) × Leaves (Written.told r) b after
+pub header-encode : (h : KnxnetIpHeader) (b : List ℕ) (r : Written) (after : List ℕ) → Header.EncodePromise h b r after → Refusing (Writing.told r) × Leaves (Writing.told r) b after
 header-encode h b = writes-refusing (Header.encodeChecks (length b)) (Header.layout h) b
 
 -- ---- frame
@@ -217,18 +218,18 @@ pub frame-data-part : (f : FrameFields) (s r : List ℕ) (e : Refusal) → verdi
 frame-data-part f s r e v q = q ∙ shown-refused (Frame.recordChecks f (length s)) (viewed 0 (f .header .«total_length»)) e s v
 
 -- frame::judge
-pub frame-judge : (s : List ℕ) (r : Judged) → Judge.JudgePromise s r → Refusing (Judge.told r)
-frame-judge s r = judged-refusing (Frame.checks (length s) (get Header.fields 0 s)) (done (Header.serviceIn (get Header.fields 0 s) ∷ Header.totalIn (get Header.fields 0 s) ∷ [])) (Judge.told r) refl
+pub frame-judge : (s : List ℕ) (r : Judged) → Judging.JudgePromise s r → Refusing (Judging.told r)
+frame-judge s r = judged-refusing (Frame.checks (length s) (get Header.fields 0 s)) (done (Header.serviceIn (get Header.fields 0 s) ∷ Header.totalIn (get Header.fields 0 s) ∷ [])) (Judging.told r) refl
 
 -- frame::FrameBuilder::build
-pub frame-build : (f : FrameBuilder) (body b : List ℕ) (r : Written) (after : List ℕ) → Builder.BuildPromise f body b r after → Refusing (Written.told r) × Leaves (Written.told r) b after
-frame-build f body b = writes-refusing (Builder.checks (length body) (length b)) (Builder.frame (f .«service_type») body) b
+pub frame-build : (f : FrameBuilder) (body b : List ℕ) (r : Written) (after : List ℕ) → FrameBuilder.BuildPromise f body b r after → Refusing (Writing.told r) × Leaves (Writing.told r) b after
+frame-build f body b = writes-refusing (FrameBuilder.checks (length body) (length b)) (Write.frame (f .«service_type») body) b
 
 -- frame::write_frame
 -- frame::write_frame2
 -- frame::write_frame3
-pub frame-write : (s : ServiceType) (body b : List ℕ) (r : Written) (after : List ℕ) → Builder.WriteFramePromise s body b r after → Refusing (Written.told r) × Leaves (Written.told r) b after
-frame-write s body b = writes-refusing (Builder.frameChecks (length body) (length b)) (Builder.frame s body) b
+pub frame-write : (s : ServiceType) (body b : List ℕ) (r : Written) (after : List ℕ) → Write.WriteFramePromise s body b r after → Refusing (Writing.told r) × Leaves (Writing.told r) b after
+frame-write s body b = writes-refusing (Write.frameChecks (length body) (length b)) (Write.frame s body) b
 
 -- ---- hpai
 
@@ -237,32 +238,32 @@ pub hpai-parse : (s : List ℕ) (r : HpaiAnswer) → Hpai.ParsePromise s r → R
 hpai-parse s r = judged-refusing (Hpai.checks (length s) (get Hpai.fields 0 s)) (done (get Hpai.fields 0 s)) (Hpai.told r) refl
 
 -- hpai::Hpai::encode
-pub hpai-encode : (h : Hpai) (b : List ℕ) (r : Written) (after : List ℕ) → Hpai.EncodePromise h b r after → Refusing (Written.told r) × Leaves (Written.told r) b after
+pub hpai-encode : (h : Hpai) (b : List ℕ) (r : Written) (after : List ℕ) → Hpai.EncodePromise h b r after → Refusing (Writing.told r) × Leaves (Writing.told r) b after
 hpai-encode h b = writes-refusing (Hpai.encodeChecks (length b)) (Hpai.layout h) b
 
 -- ---- connect
 
 -- connect::ConnectionRequestInfo::encode
-pub cri-encode : (c : ConnectionRequestInfo) (b : List ℕ) (r : Written) (after : List ℕ) → Cri.EncodePromise c b r after → Refusing (Written.told r) × Leaves (Written.told r) b after
+pub cri-encode : (c : ConnectionRequestInfo) (b : List ℕ) (r : Written) (after : List ℕ) → Cri.EncodePromise c b r after → Refusing (Writing.told r) × Leaves (Writing.told r) b after
 cri-encode c b = writes-refusing (Cri.encodeChecks (length b)) (Cri.layout c) b
 
 -- connect::ConnectionRequestInfo::decode
 pub cri-decode : (s : List ℕ) (r : ConnectionRequestInfoAnswer) → Cri.DecodePromise s r → Refusing (Cri.told r)
-cri-decode s r = judged-refusing (Cri.checks (length s) (get Cri.fields 0 s)) (done (Cri.held (get Cri.fields 0 s))) (Cri.told r) refl
+cri-decode s r = judged-refusing (Cri.checks (length s) (get Cri.fields 0 s)) (done (Cri.valuesIn (get Cri.fields 0 s))) (Cri.told r) refl
 
 -- connect::ConnectRequest::build
-pub connect-request-build : (q : ConnectRequest) (b : List ℕ) (r : Written) (after : List ℕ) → ConnectReq.BuildPromise q b r after → Refusing (Written.told r) × Leaves (Written.told r) b after
-connect-request-build q b = writes-refusing (ConnectReq.buildChecks (length b)) (Builder.frame S.ConnectRequest (ConnectReq.layout q)) b
+pub connect-request-build : (q : ConnectRequest) (b : List ℕ) (r : Written) (after : List ℕ) → ConnectRequest.BuildPromise q b r after → Refusing (Writing.told r) × Leaves (Writing.told r) b after
+connect-request-build q b = writes-refusing (ConnectRequest.buildChecks (length b)) (Write.frame ServiceType.ConnectRequest (ConnectRequest.layout q)) b
 
 -- connect::ConnectResponse::parse
-pub connect-response-parse : (s : List ℕ) (r : ConnectResponseAnswer) → ConnectRes.ParsePromise s r → Refusing (ConnectRes.told r)
-connect-response-parse s r p = judged-refusing (ConnectRes.checks (length s) (get ConnectRes.fields 0 s)) (done (get ConnectRes.fields 0 s)) (ConnectRes.told r) refl (p .0)
+pub connect-response-parse : (s : List ℕ) (r : ConnectResponseAnswer) → ConnectResponse.ParsePromise s r → Refusing (ConnectResponse.told r)
+connect-response-parse s r p = judged-refusing (ConnectResponse.checks (length s) (get ConnectResponse.fields 0 s)) (done (get ConnectResponse.fields 0 s)) (ConnectResponse.told r) refl (p .0)
 
 -- connect::ConnectionStateRequest::build
 -- connect::DisconnectRequest::build
 pub channel-request : (s : ServiceType) (channel : ℕ) (h : Hpai) (b : List ℕ) (r : Written) (after : List ℕ)
-    → Channel.RequestPromise s channel h b r after → Refusing (Written.told r) × Leaves (Written.told r) b after
-channel-request s channel h b = writes-refusing (Channel.requestChecks (length b)) (Builder.frame s (Channel.requestLayout channel h)) b
+    → Channel.RequestPromise s channel h b r after → Refusing (Writing.told r) × Leaves (Writing.told r) b after
+channel-request s channel h b = writes-refusing (Channel.requestChecks (length b)) (Write.frame s (Channel.requestLayout channel h)) b
 
 -- connect::ConnectionStateResponse::parse
 pub state-response-parse : (s : List ℕ) (r : ConnectionStateAnswer) → Channel.StateParsePromise s r → Refusing (Channel.toldState r)
@@ -275,42 +276,42 @@ disconnect-response-parse s r = judged-refusing (checksOf Channel.statusFormat (
 -- ---- tunnelling
 
 -- tunnelling::ConnectionHeader::encode
-pub connection-header-encode : (h : ConnectionHeader) (b : List ℕ) (r : Written) (after : List ℕ) → Connection.EncodePromise h b r after → Refusing (Written.told r) × Leaves (Written.told r) b after
+pub connection-header-encode : (h : ConnectionHeader) (b : List ℕ) (r : Written) (after : List ℕ) → Connection.EncodePromise h b r after → Refusing (Writing.told r) × Leaves (Writing.told r) b after
 connection-header-encode h b = writes-refusing (Connection.encodeChecks (length b)) (Connection.layout h) b
 
 -- tunnelling::ConnectionHeader::decode
 pub connection-header-decode : (s : List ℕ) (r : ConnectionHeaderAnswer) → Connection.DecodePromise s r → Refusing (Connection.told r)
-connection-header-decode s r = judged-refusing (Connection.checks (length s)) (done (Connection.held (get Connection.fields 0 s))) (Connection.told r) refl
+connection-header-decode s r = judged-refusing (Connection.checks (length s)) (done (Connection.valuesIn (get Connection.fields 0 s))) (Connection.told r) refl
 
 -- tunnelling::TunnelingRequest::build
-pub tunnel-request-build : (t : TunnelingRequest) (cemi b : List ℕ) (r : Written) (after : List ℕ) → TunnelReq.BuildPromise t cemi b r after → Refusing (Written.told r) × Leaves (Written.told r) b after
-tunnel-request-build t cemi b = writes-refusing (TunnelReq.buildChecks (length cemi) (length b)) (Builder.frame S.TunnellingRequest (TunnelReq.body (t .«connection_header») cemi)) b
+pub tunnel-request-build : (t : TunnelingRequest) (cemi b : List ℕ) (r : Written) (after : List ℕ) → TunnelingRequest.BuildPromise t cemi b r after → Refusing (Writing.told r) × Leaves (Writing.told r) b after
+tunnel-request-build t cemi b = writes-refusing (TunnelingRequest.buildChecks (length cemi) (length b)) (Write.frame ServiceType.TunnellingRequest (TunnelingRequest.body (t .«connection_header») cemi)) b
 
 -- tunnelling::TunnelingRequest::parse
-pub tunnel-request-parse : (s : List ℕ) (r : TunnelingRequestAnswer) → TunnelReq.ParsePromise s r → Refusing (TunnelReq.told r)
-tunnel-request-parse s r = judged-refusing (Connection.checks (length s)) (done (Connection.held (get Connection.fields 0 s))) (TunnelReq.told r) refl
+pub tunnel-request-parse : (s : List ℕ) (r : TunnelingRequestAnswer) → TunnelingRequest.ParsePromise s r → Refusing (TunnelingRequest.told r)
+tunnel-request-parse s r = judged-refusing (Connection.checks (length s)) (done (Connection.valuesIn (get Connection.fields 0 s))) (TunnelingRequest.told r) refl
 
 -- tunnelling::TunnelingRequest::cemi_data
-pub tunnel-request-cemi : (s : List ℕ) (r : View) → TunnelReq.CemiDataPromise s r → Refusing (Parts.told r)
+pub tunnel-request-cemi : (s : List ℕ) (r : View) → TunnelingRequest.CemiDataPromise s r → Refusing (Parts.told r)
 tunnel-request-cemi s r = judged-refusing (Connection.checks (length s)) (viewed 4 (length s)) (Parts.told r) refl
 
 -- tunnelling::TunnelingRequest::cemi_part
-pub tunnel-request-cemi-part : (s r : List ℕ) (e : Refusal) → verdict (Connection.checks (length s)) ≡ Refuse e → TunnelReq.CemiPartPromise s r → r ≡ []
+pub tunnel-request-cemi-part : (s r : List ℕ) (e : Refusal) → verdict (Connection.checks (length s)) ≡ Refuse e → TunnelingRequest.CemiPartPromise s r → r ≡ []
 tunnel-request-cemi-part s r e v q = q ∙ shown-refused (Connection.checks (length s)) (viewed 4 (length s)) e s v
 
 -- tunnelling::TunnelingAck::build
-pub ack-build : (a : TunnelingAck) (b : List ℕ) (r : Written) (after : List ℕ) → Ack.BuildPromise a b r after → Refusing (Written.told r) × Leaves (Written.told r) b after
-ack-build a b = writes-refusing (Ack.buildChecks (length b)) (Builder.frame S.TunnellingAck (Ack.layout a)) b
+pub ack-build : (a : TunnelingAck) (b : List ℕ) (r : Written) (after : List ℕ) → TunnelingAck.BuildPromise a b r after → Refusing (Writing.told r) × Leaves (Writing.told r) b after
+ack-build a b = writes-refusing (TunnelingAck.buildChecks (length b)) (Write.frame ServiceType.TunnellingAck (TunnelingAck.layout a)) b
 
 -- tunnelling::TunnelingAck::parse
-pub ack-parse : (s : List ℕ) (r : TunnelingAckAnswer) → Ack.ParsePromise s r → Refusing (Ack.told r)
-ack-parse s r = judged-refusing (Ack.checks (length s)) (done (Ack.held (get Ack.fields 0 s))) (Ack.told r) refl
+pub ack-parse : (s : List ℕ) (r : TunnelingAckAnswer) → TunnelingAck.ParsePromise s r → Refusing (TunnelingAck.told r)
+ack-parse s r = judged-refusing (TunnelingAck.checks (length s)) (done (TunnelingAck.valuesIn (get TunnelingAck.fields 0 s))) (TunnelingAck.told r) refl
 
 -- ---- datagram
 
--- datagram::hear
-pub datagram-hear : (s : List ℕ) (r : Heard) → Heard.HearPromise s r → Refusing (Heard.told r)
-datagram-hear s r p = HeardLaws.heard-refusing r
+-- tunnel_datagram::hear
+pub datagram-hear : (s : List ℕ) (r : Heard) → Hearing.HearPromise s r → Refusing (Hearing.told r)
+datagram-hear s r p = HearingLaws.heard-refusing r
 
 -- ---- tunnel: a refusal is 11, says nothing and leaves the tunnel
 
@@ -324,165 +325,165 @@ tunnel-acknowledged = RuleLaws.acknowledged-done
 
 -- ---- kip
 
--- kip_inspect::line
-pub kip-line : (n : ℕ) (j : Judged) (out : List ℕ) (r : Written) (after : List ℕ) → Line.LinePromise n j out r after → Refusing (Written.told r) × Leaves (Written.told r) out after
-kip-line n j out = writes-refusing (room (length (Line.lineOf n j)) (length out) ∷ []) (Line.lineOf n j) out
+-- inspection::line
+pub kip-line : (n : ℕ) (j : Judged) (out : List ℕ) (r : Written) (after : List ℕ) → InspectionLines.LinePromise n j out r after → Refusing (Writing.told r) × Leaves (Writing.told r) out after
+kip-line n j out = writes-refusing (room (length (InspectionLines.lineOf n j)) (length out) ∷ []) (InspectionLines.lineOf n j) out
 
--- kip_inspect::heading
-pub kip-heading : (kip : Bool) (out : List ℕ) (r : Written) (after : List ℕ) → Line.HeadingPromise kip out r after → Refusing (Written.told r) × Leaves (Written.told r) out after
-kip-heading kip out = writes-refusing (room (length (Line.headingOf kip)) (length out) ∷ []) (Line.headingOf kip) out
+-- inspection::heading
+pub kip-heading : (kip : Bool) (out : List ℕ) (r : Written) (after : List ℕ) → InspectionLines.HeadingPromise kip out r after → Refusing (Writing.told r) × Leaves (Writing.told r) out after
+kip-heading kip out = writes-refusing (room (length (InspectionLines.headingOf kip)) (length out) ∷ []) (InspectionLines.headingOf kip) out
 
--- kip_inspect::ending
-pub kip-ending : (n : ℕ) (cut : Bool) (out : List ℕ) (r : Written) (after : List ℕ) → Line.EndingPromise n cut out r after → Refusing (Written.told r) × Leaves (Written.told r) out after
-kip-ending n cut out = writes-refusing (room (length (Line.endingOf n cut)) (length out) ∷ []) (Line.endingOf n cut) out
+-- inspection::ending
+pub kip-ending : (n : ℕ) (cut : Bool) (out : List ℕ) (r : Written) (after : List ℕ) → InspectionLines.EndingPromise n cut out r after → Refusing (Writing.told r) × Leaves (Writing.told r) out after
+kip-ending n cut out = writes-refusing (room (length (InspectionLines.endingOf n cut)) (length out) ∷ []) (InspectionLines.endingOf n cut) out
 
 -- ---- table: the five calls alike; what a refusal leaves is the output and the table
 
--- table::Table::open
--- table::Table::close
--- table::Table::timeout
--- table::Table::send
--- table::Table::datagram
+-- tunnel_table::Table::open
+-- tunnel_table::Table::close
+-- tunnel_table::Table::timeout
+-- tunnel_table::Table::send
+-- tunnel_table::Table::datagram
 pub table-calls : (t : Table) (c : Call) (r : Called) (after : List ℕ) → CallPromise t c r after → (r .number ≡ 0 → ⊥)
     → Zeros (Table.told r) × (after ≡ outOf c) × (r .table ≡ t)
 table-calls = Compiled.call-refusing
 
--- table::Table::heard
+-- tunnel_table::Table::heard
 pub table-heard : (t : Table) (h : Heard) (out : List ℕ) (r : Called) (after : List ℕ) → Table.HeardPromise t h out r after → (r .number ≡ 0 → ⊥)
     → Zeros (Table.told r) × (after ≡ out) × (r .table ≡ t)
 table-heard = Compiled.heard-refusing
 
--- ---- views: what is refused by its parse holds nothing; a record that is refused, by its answer or by the checks that are repeated, hands out nothing, and its view has the number
+-- ---- borrowed: what is refused by its parse borrows nothing; a record that is refused, by its answer or by the checks that are repeated, hands out nothing, and its view has the number
 
--- views::KnxnetIpFrame::parse
-pub knxnet-ip-parse : (s : List ℕ) (r : KnxnetIpFrame) → KnxnetIp.ParsePromise s r → Refusing (Frame.told (r .answer))
+-- borrowed::KnxnetIpFrame::parse
+pub knxnet-ip-parse : (s : List ℕ) (r : KnxnetIpFrame) → KnxnetIpFrame.ParsePromise s r → Refusing (Frame.told (r .answer))
 knxnet-ip-parse s r p = frame-parse s (r .answer) (p .1)
 
-pub knxnet-ip-holds : (s : List ℕ) (r : KnxnetIpFrame) (e : Refusal) → KnxnetIp.ParsePromise s r → r .answer ≡ FA.Refused e → now (r .«data») ≡ []
-knxnet-ip-holds = KnxnetIpLaws.holds-none
+pub knxnet-ip-borrows : (s : List ℕ) (r : KnxnetIpFrame) (e : Refusal) → KnxnetIpFrame.ParsePromise s r → r .answer ≡ FrameAnswer.Refused e → now (r .«data») ≡ []
+knxnet-ip-borrows = KnxnetIpFrameLaws.borrows-none
 
--- views::KnxnetIpFrame::body
-pub knxnet-ip-body : (f : KnxnetIpFrame) (e : Refusal) (r : List ℕ) → f .answer ≡ FA.Refused e → KnxnetIp.BodyPromise f r → r ≡ []
-knxnet-ip-body = KnxnetIpLaws.body-none
+-- borrowed::KnxnetIpFrame::body
+pub knxnet-ip-body : (f : KnxnetIpFrame) (e : Refusal) (r : List ℕ) → f .answer ≡ FrameAnswer.Refused e → KnxnetIpFrame.BodyPromise f r → r ≡ []
+knxnet-ip-body = KnxnetIpFrameLaws.body-none
 
-pub knxnet-ip-body-part : (f : KnxnetIpFrame) (v : View) (r : List ℕ) → KnxnetIp.BodyViewPromise (now (f .«data»)) (f .answer) v → KnxnetIp.BodyPromise f r → (v .number ≡ 0 → ⊥) → r ≡ []
-knxnet-ip-body-part = KnxnetIpLaws.body-refused
+pub knxnet-ip-body-part : (f : KnxnetIpFrame) (v : View) (r : List ℕ) → KnxnetIpFrame.BodyViewPromise (now (f .«data»)) (f .answer) v → KnxnetIpFrame.BodyPromise f r → (v .number ≡ 0 → ⊥) → r ≡ []
+knxnet-ip-body-part = KnxnetIpFrameLaws.body-refused
 
--- views::body_view
-pub knxnet-ip-body-view : (s : List ℕ) (a : FrameAnswer) (r : View) → KnxnetIp.BodyViewPromise s a r → Refusing (Parts.told r)
-knxnet-ip-body-view = KnxnetIpLaws.view-refusing
+-- borrowed::body_view
+pub knxnet-ip-body-view : (s : List ℕ) (a : FrameAnswer) (r : View) → KnxnetIpFrame.BodyViewPromise s a r → Refusing (Parts.told r)
+knxnet-ip-body-view = KnxnetIpFrameLaws.view-refusing
 
-pub knxnet-ip-body-number : (s : List ℕ) (a : FrameAnswer) (e : Refusal) (r : View) → a ≡ FA.Refused e → KnxnetIp.BodyViewPromise s a r → Parts.told r ≡ refused 0 e
-knxnet-ip-body-number = KnxnetIpLaws.view-none
+pub knxnet-ip-body-number : (s : List ℕ) (a : FrameAnswer) (e : Refusal) (r : View) → a ≡ FrameAnswer.Refused e → KnxnetIpFrame.BodyViewPromise s a r → Parts.told r ≡ refused 0 e
+knxnet-ip-body-number = KnxnetIpFrameLaws.view-none
 
--- views::body_in
-pub knxnet-ip-body-in : (s r : List ℕ) (e : Refusal) → verdict (Frame.checks (length s) (get Header.fields 0 s)) ≡ Refuse e → KnxnetIp.BodyInPromise s r → r ≡ []
+-- borrowed::body_in
+pub knxnet-ip-body-in : (s r : List ℕ) (e : Refusal) → verdict (Frame.checks (length s) (get Header.fields 0 s)) ≡ Refuse e → KnxnetIpFrame.BodyInPromise s r → r ≡ []
 knxnet-ip-body-in s r e v q = q ∙ shown-refused (Frame.checks (length s) (get Header.fields 0 s)) (viewed 6 (Header.totalIn (get Header.fields 0 s))) e s v
 
--- views::LDataFrame::parse
-pub ldata-frame-parse : (s : List ℕ) (r : LDataFrame) → LDataView.ParsePromise s r → Refusing (LData.told (r .answer))
+-- borrowed::LDataFrame::parse
+pub ldata-frame-parse : (s : List ℕ) (r : LDataFrame) → LDataFrame.ParsePromise s r → Refusing (LData.told (r .answer))
 ldata-frame-parse s r p = ldata-parse s (r .answer) (p .1)
 
-pub ldata-frame-holds : (s : List ℕ) (r : LDataFrame) (e : Refusal) → LDataView.ParsePromise s r → r .answer ≡ LA.Refused e → now (r .«data») ≡ []
-ldata-frame-holds = LDataViewLaws.holds-none
+pub ldata-frame-borrows : (s : List ℕ) (r : LDataFrame) (e : Refusal) → LDataFrame.ParsePromise s r → r .answer ≡ LDataAnswer.Refused e → now (r .«data») ≡ []
+ldata-frame-borrows = LDataFrameLaws.borrows-none
 
--- views::LDataFrame::data
-pub ldata-frame-data : (f : LDataFrame) (e : Refusal) (r : List ℕ) → f .answer ≡ LA.Refused e → LDataView.DataPromise f r → r ≡ []
-ldata-frame-data = LDataViewLaws.data-none
+-- borrowed::LDataFrame::data
+pub ldata-frame-data : (f : LDataFrame) (e : Refusal) (r : List ℕ) → f .answer ≡ LDataAnswer.Refused e → LDataFrame.DataPromise f r → r ≡ []
+ldata-frame-data = LDataFrameLaws.data-none
 
-pub ldata-frame-data-part : (f : LDataFrame) (v : View) (r : List ℕ) → LDataView.DataViewPromise (now (f .«data»)) (f .answer) v → LDataView.DataPromise f r → (v .number ≡ 0 → ⊥) → r ≡ []
-ldata-frame-data-part = LDataViewLaws.data-refused
+pub ldata-frame-data-part : (f : LDataFrame) (v : View) (r : List ℕ) → LDataFrame.DataViewPromise (now (f .«data»)) (f .answer) v → LDataFrame.DataPromise f r → (v .number ≡ 0 → ⊥) → r ≡ []
+ldata-frame-data-part = LDataFrameLaws.data-refused
 
--- views::data_view
-pub ldata-frame-data-view : (s : List ℕ) (a : LDataAnswer) (r : View) → LDataView.DataViewPromise s a r → Refusing (Parts.told r)
-ldata-frame-data-view = LDataViewLaws.view-refusing
+-- borrowed::data_view
+pub ldata-frame-data-view : (s : List ℕ) (a : LDataAnswer) (r : View) → LDataFrame.DataViewPromise s a r → Refusing (Parts.told r)
+ldata-frame-data-view = LDataFrameLaws.view-refusing
 
-pub ldata-frame-data-number : (s : List ℕ) (a : LDataAnswer) (e : Refusal) (r : View) → a ≡ LA.Refused e → LDataView.DataViewPromise s a r → Parts.told r ≡ refused 0 e
-ldata-frame-data-number = LDataViewLaws.view-none
+pub ldata-frame-data-number : (s : List ℕ) (a : LDataAnswer) (e : Refusal) (r : View) → a ≡ LDataAnswer.Refused e → LDataFrame.DataViewPromise s a r → Parts.told r ≡ refused 0 e
+ldata-frame-data-number = LDataFrameLaws.view-none
 
--- views::data_in
-pub ldata-frame-data-in : (s r : List ℕ) (e : Refusal) → LData.ParsePromise s (LA.Refused e) → LDataView.DataInPromise s r → r ≡ []
-ldata-frame-data-in s r e p q = q ∙ LDataViewLaws.refused-data s e p
+-- borrowed::data_in
+pub ldata-frame-data-in : (s r : List ℕ) (e : Refusal) → LData.ParsePromise s (LDataAnswer.Refused e) → LDataFrame.DataInPromise s r → r ≡ []
+ldata-frame-data-in s r e p q = q ∙ LDataFrameLaws.refused-data s e p
 
 -- ---- image
 
--- image::pack
-pub image-pack : (l : List Place) (image : List ℕ) (r : Written) (after : List ℕ) → Image.PackPromise l image r after → Refusing (Written.told r) × Leaves (Written.told r) image after
+-- tunnel_image::pack
+pub image-pack : (l : List Place) (image : List ℕ) (r : Written) (after : List ℕ) → Image.PackPromise l image r after → Refusing (Writing.told r) × Leaves (Writing.told r) image after
 image-pack l = write (Image.packed l)
 
 -- ---- host: the readers, then the builders, whose refusals are those of the builders below
 
--- host::knx_frame_parse
-pub host-frame-parse : (s : List ℕ) (r : KnxFrame) → Reading.FramePromise s r → Refusing (Reading.toldFrame r)
-host-frame-parse s r = judged-refusing (Frame.checks (length s) (get Header.fields 0 s)) (Reading.frameIn (get Header.fields 0 s)) (Reading.toldFrame r) refl
+-- knx::knx_frame_parse
+pub knx-frame-parse : (s : List ℕ) (r : KnxFrame) → KnxReading.FramePromise s r → Refusing (KnxReading.toldFrame r)
+knx-frame-parse s r = judged-refusing (Frame.checks (length s) (get Header.fields 0 s)) (KnxReading.frameIn (get Header.fields 0 s)) (KnxReading.toldFrame r) refl
 
--- host::knx_hpai_parse
-pub host-hpai-parse : (s : List ℕ) (r : KnxHpai) → Reading.HpaiPromise s r → Refusing (Hpai.told (Reading.hpaiAnswer r))
-host-hpai-parse s r = hpai-parse s (Reading.hpaiAnswer r)
+-- knx::knx_hpai_parse
+pub knx-hpai-parse : (s : List ℕ) (r : KnxHpai) → KnxReading.HpaiPromise s r → Refusing (Hpai.told (KnxReading.hpaiAnswer r))
+knx-hpai-parse s r = hpai-parse s (KnxReading.hpaiAnswer r)
 
--- host::knx_connect_response
-pub host-connect-response : (s : List ℕ) (r : KnxConnectResponse) → Reading.ConnectResponsePromise s r → Refusing (ConnectRes.told (Reading.responseAnswer r))
-host-connect-response s r = connect-response-parse s (Reading.responseAnswer r)
+-- knx::knx_connect_response
+pub knx-connect-response : (s : List ℕ) (r : KnxConnectResponse) → KnxReading.ConnectResponsePromise s r → Refusing (ConnectResponse.told (KnxReading.responseAnswer r))
+knx-connect-response s r = connect-response-parse s (KnxReading.responseAnswer r)
 
--- host::knx_cemi_ldata
-pub host-cemi-ldata : (s : List ℕ) (r : KnxLData) → CemiLData.CemiLDataPromise s r → Refusing (CemiLData.told r)
-host-cemi-ldata s r = judged-refusing (CemiLData.checks s) (CemiLData.ldataIn s) (CemiLData.told r) refl
+-- knx::knx_cemi_ldata
+pub knx-cemi-ldata : (s : List ℕ) (r : KnxLData) → CemiLData.CemiLDataPromise s r → Refusing (CemiLData.told r)
+knx-cemi-ldata s r = judged-refusing (CemiLData.checks s) (CemiLData.ldataIn s) (CemiLData.told r) refl
 
 abbrev pub ToldRefuses : List ℕ → KnxWritten → List ℕ → Type 0
 ToldRefuses b r after = Refusing (Building.told r) × Leaves (Building.told r) b after
 
--- host::knx_ldata_build
-pub host-ldata-build : (control-1 control-2 source destination tpci code six : ℕ) (d b : List ℕ) (r : KnxWritten) (after : List ℕ)
+-- knx::knx_ldata_build
+pub knx-ldata-build : (control-1 control-2 source destination tpci code six : ℕ) (d b : List ℕ) (r : KnxWritten) (after : List ℕ)
     → Building.LDataBuildPromise control-1 control-2 source destination tpci code six d b r after → ToldRefuses b r after
-host-ldata-build control-1 control-2 source destination tpci code six d b =
+knx-ldata-build control-1 control-2 source destination tpci code six d b =
     let q = Building.builderOf control-1 control-2 source destination tpci code six in
     tells-refusing (LDataBuilder.BuildPromise q d b) b (ldata-build q d b)
 
--- host::knx_connect_request
-pub host-connect-request : (control other : KnxEndpoint) (b : List ℕ) (r : KnxWritten) (after : List ℕ) → Building.ConnectRequestPromise control other b r after → ToldRefuses b r after
-host-connect-request control other b =
+-- knx::knx_connect_request
+pub knx-connect-request : (control other : KnxEndpoint) (b : List ℕ) (r : KnxWritten) (after : List ℕ) → Building.ConnectRequestPromise control other b r after → ToldRefuses b r after
+knx-connect-request control other b =
     let q = Building.connectOf control other in
-    tells-refusing (ConnectReq.BuildPromise q b) b (connect-request-build q b)
+    tells-refusing (ConnectRequest.BuildPromise q b) b (connect-request-build q b)
 
--- host::knx_connectionstate_request
-pub host-connectionstate-request : (channel : ℕ) (control : KnxEndpoint) (b : List ℕ) (r : KnxWritten) (after : List ℕ)
+-- knx::knx_connectionstate_request
+pub knx-connectionstate-request : (channel : ℕ) (control : KnxEndpoint) (b : List ℕ) (r : KnxWritten) (after : List ℕ)
     → Building.ConnectionStateRequestPromise channel control b r after → ToldRefuses b r after
-host-connectionstate-request channel control b =
-    tells-refusing (Channel.StateBuildPromise (Building.stateOf channel control) b) b (channel-request S.ConnectionstateRequest channel (Building.endpointOf control) b)
+knx-connectionstate-request channel control b =
+    tells-refusing (Channel.StateBuildPromise (Building.stateOf channel control) b) b (channel-request ServiceType.ConnectionstateRequest channel (Building.endpointOf control) b)
 
--- host::knx_disconnect_request
-pub host-disconnect-request : (channel : ℕ) (control : KnxEndpoint) (b : List ℕ) (r : KnxWritten) (after : List ℕ)
+-- knx::knx_disconnect_request
+pub knx-disconnect-request : (channel : ℕ) (control : KnxEndpoint) (b : List ℕ) (r : KnxWritten) (after : List ℕ)
     → Building.DisconnectRequestPromise channel control b r after → ToldRefuses b r after
-host-disconnect-request channel control b =
-    tells-refusing (Channel.DisconnectBuildPromise (Building.disconnectOf channel control) b) b (channel-request S.DisconnectRequest channel (Building.endpointOf control) b)
+knx-disconnect-request channel control b =
+    tells-refusing (Channel.DisconnectBuildPromise (Building.disconnectOf channel control) b) b (channel-request ServiceType.DisconnectRequest channel (Building.endpointOf control) b)
 
--- host::knx_tunneling_request
-pub host-tunneling-request : (channel sequence : ℕ) (cemi b : List ℕ) (r : KnxWritten) (after : List ℕ)
+-- knx::knx_tunneling_request
+pub knx-tunneling-request : (channel sequence : ℕ) (cemi b : List ℕ) (r : KnxWritten) (after : List ℕ)
     → Building.TunnelingRequestPromise channel sequence cemi b r after → ToldRefuses b r after
-host-tunneling-request channel sequence cemi b =
+knx-tunneling-request channel sequence cemi b =
     let q = Building.requestOf channel sequence in
-    tells-refusing (TunnelReq.BuildPromise q cemi b) b (tunnel-request-build q cemi b)
+    tells-refusing (TunnelingRequest.BuildPromise q cemi b) b (tunnel-request-build q cemi b)
 
--- host::knx_tunneling_ack
-pub host-tunneling-ack : (channel sequence status : ℕ) (b : List ℕ) (r : KnxWritten) (after : List ℕ) → Building.TunnelingAckPromise channel sequence status b r after → ToldRefuses b r after
-host-tunneling-ack channel sequence status b =
+-- knx::knx_tunneling_ack
+pub knx-tunneling-ack : (channel sequence status : ℕ) (b : List ℕ) (r : KnxWritten) (after : List ℕ) → Building.TunnelingAckPromise channel sequence status b r after → ToldRefuses b r after
+knx-tunneling-ack channel sequence status b =
     let q = Building.ackOf channel sequence status in
-    tells-refusing (Ack.BuildPromise q b) b (ack-build q b)
+    tells-refusing (TunnelingAck.BuildPromise q b) b (ack-build q b)
 
--- host::knx_table_empty
-pub host-table-empty : (image : List ℕ) (r : KnxWritten) (after : List ℕ) → HostCalled.EmptyPromise image r after → ToldRefuses image r after
-host-table-empty image = tells-refusing (Image.PackPromise (emptyOf kind 8) image) image (image-pack (emptyOf kind 8) image)
+-- knx::knx_table_empty
+pub knx-table-empty : (image : List ℕ) (r : KnxWritten) (after : List ℕ) → Called.EmptyPromise image r after → ToldRefuses image r after
+knx-table-empty image = tells-refusing (Image.PackPromise (emptyOf kind 8) image) image (image-pack (emptyOf kind 8) image)
 
 -- ---- the five calls alike; what a refusal leaves is the output and the image
 
--- host::knx_table_open
--- host::knx_table_close
--- host::knx_table_timeout
--- host::knx_table_send
--- host::knx_table_datagram
-pub host-table-calls : (image : List ℕ) (c : Call) (r : KnxCalled) (after out : List ℕ) → HostCalled.CallPromise image c r after out → (r .number ≡ 0 → ⊥)
-    → Zeros (HostCalled.told r) × (out ≡ outOf c) × (after ≡ image)
-host-table-calls = CalledLaws.call-refusing
+-- knx::knx_table_open
+-- knx::knx_table_close
+-- knx::knx_table_timeout
+-- knx::knx_table_send
+-- knx::knx_table_datagram
+pub knx-table-calls : (image : List ℕ) (c : Call) (r : KnxCalled) (after out : List ℕ) → Called.CallPromise image c r after out → (r .number ≡ 0 → ⊥)
+    → Zeros (Called.told r) × (out ≡ outOf c) × (after ≡ image)
+knx-table-calls = CalledLaws.call-refusing
 
 -- ---- the other public functions have no refusal: each answers on every input
 
@@ -565,16 +566,16 @@ host-table-calls = CalledLaws.call-refusing
 -- tunnel::Tunnel::sending
 -- tunnel::Tunnel::arrival
 -- tunnel::Tunnel::delivered
--- table::Table::empty
+-- tunnel_table::Table::empty
 -- kip::starts
 -- kip::next_record
--- kip_inspect::scan
--- kip_inspect::begin
--- kip_inspect::written_out
--- kip_inspect::read_on
--- kip_inspect::to_front
+-- inspection::scan
+-- inspection::begin
+-- inspection::written_out
+-- inspection::read_on
+-- inspection::to_front
 -- inspect_io::run
--- image::unpack
+-- tunnel_image::unpack
 -- digits::places
 -- digits::put_digits
 -- digits::hex_digit

@@ -8,20 +8,20 @@ use lib.Seq.{drop-append-seam}
 use Rattle.wire.specs.Told.{Told, done, Check, verdict, lent, noneOf}
 use Rattle.wire.specs.ToldLaws.{let-pass}
 use Rattle.wire.specs.LayoutLaws.{Bytes}
-use Rattle.wire.specs.Written.{onto, tells, leaves}
+use Rattle.wire.specs.Writing.{onto, tells, leaves}
 use Rattle.wire.specs.declared.refusals.Verdict.{Verdict}
 use Rattle.wire.specs.declared.refusals.Verdict.the-variants.{Accept}
-use Rattle.wire.specs.declared.refusals.Written.the-variants as W
+use Rattle.wire.specs.declared.refusals.Written.the-variants as Written
 use Rattle.constants.specs.Services as Services
 use Rattle.constants.specs.ServiceLaws as ServiceLaws
 use Rattle.constants.specs.MessageCodes as MessageCodes
 use Rattle.constants.specs.MessageCodeLaws as MessageCodeLaws
-use Rattle.constants.specs.declared.message_code.CEMIMessageCode.{CEMIMessageCode}
-use Rattle.constants.specs.declared.message_code.CEMIMessageCodeAnswer.{CEMIMessageCodeAnswer}
-use Rattle.constants.specs.declared.message_code.CEMIMessageCodeAnswer.the-variants as M
-use Rattle.constants.specs.declared.ServiceType.{ServiceType}
-use Rattle.constants.specs.declared.ServiceAnswer.{ServiceAnswer}
-use Rattle.constants.specs.declared.ServiceAnswer.the-variants as S
+use Rattle.constants.specs.declared.message_codes.CEMIMessageCode.{CEMIMessageCode}
+use Rattle.constants.specs.declared.message_codes.CEMIMessageCodeAnswer.{CEMIMessageCodeAnswer}
+use Rattle.constants.specs.declared.message_codes.CEMIMessageCodeAnswer.the-variants as CEMIMessageCodeAnswer
+use Rattle.constants.specs.declared.services.ServiceType.{ServiceType}
+use Rattle.constants.specs.declared.services.ServiceAnswer.{ServiceAnswer}
+use Rattle.constants.specs.declared.services.ServiceAnswer.the-variants as ServiceAnswer
 use mathlib.Core.Bool.{Bool, true, false}
 use Rattle.constants.specs.declared.priorities.Priority.{Priority}
 use Rattle.control.specs.First as First
@@ -31,82 +31,83 @@ use Rattle.control.specs.declared.first.ControlField1.{ControlField1}
 use Rattle.control.specs.declared.second.ControlField2.{ControlField2}
 use Rattle.pci.specs.Application as Application
 use Rattle.pci.specs.PciLaws as PciLaws
-use Rattle.pci.specs.declared.application.Apci.the-variants as P
+use Rattle.pci.specs.declared.application.Apci.the-variants as Apci
 use Rattle.ldata.specs.Count.{crateCount}
 use Rattle.ldata.specs.LData as LData
 use Rattle.ldata.specs.LDataLaws as LDataLaws
 use Rattle.ldata.specs.Builder as LDataBuilder
-use Rattle.ldata.specs.BuilderLaws as BuilderLaws
-use Rattle.ldata.specs.RoundTrip as LDataTrip
-use Rattle.ldata.specs.declared.fields.LDataFields.{LDataFields}
-use Rattle.ldata.specs.declared.fields.LDataAnswer.{LDataAnswer}
-use Rattle.ldata.specs.declared.fields.LDataAnswer.the-variants as L
+use Rattle.ldata.specs.BuilderLaws as LDataBuilderLaws
+use Rattle.ldata.specs.RoundTrip as LDataRoundTrip
+use Rattle.ldata.specs.declared.ldata.LDataFields.{LDataFields}
+use Rattle.ldata.specs.declared.ldata.LDataAnswer.{LDataAnswer}
+use Rattle.ldata.specs.declared.ldata.LDataAnswer.the-variants as LDataAnswer
 use Rattle.ldata.specs.declared.builder.LDataBuilder.{LDataBuilder}
 use Rattle.wire.specs.Parts.{shown}
 use Rattle.wire.specs.declared.parts.View.{View}
 use Rattle.pci.specs.Transport.{isData}
-use Rattle.views.specs.KnxnetIp as KnxnetIp
-use Rattle.views.specs.KnxnetIpLaws as KnxnetIpLaws
-use Rattle.views.specs.LData as LDataView
-use Rattle.views.specs.LDataLaws as LDataViewLaws
-use Rattle.views.specs.declared.knxnet_ip.KnxnetIpFrame.{KnxnetIpFrame}
-use Rattle.views.specs.declared.l_data.LDataFrame.{LDataFrame}
-use Rattle.host.specs.Reading as Reading
-use Rattle.host.specs.ReadingLaws as ReadingLaws
-use Rattle.host.specs.CemiLData as CemiLData
-use Rattle.host.specs.CemiLDataLaws as CemiLDataLaws
-use Rattle.host.specs.declared.reading.KnxFrame.{KnxFrame}
-use Rattle.host.specs.declared.cemi_ldata.KnxLData.{KnxLData}
+use Rattle.borrowed.specs.KnxnetIpFrame as KnxnetIpFrame
+use Rattle.borrowed.specs.KnxnetIpFrameLaws as KnxnetIpFrameLaws
+use Rattle.borrowed.specs.LDataFrame as LDataFrame
+use Rattle.borrowed.specs.LDataFrameLaws as LDataFrameLaws
+use Rattle.borrowed.specs.declared.knxnet_ip_frame.KnxnetIpFrame.{KnxnetIpFrame}
+use Rattle.borrowed.specs.declared.ldata_frame.LDataFrame.{LDataFrame}
+use Rattle.knx.specs.Reading as KnxReading
+use Rattle.knx.specs.ReadingLaws as KnxReadingLaws
+use Rattle.knx.specs.CemiLData as CemiLData
+use Rattle.knx.specs.CemiLDataLaws as CemiLDataLaws
+use Rattle.knx.specs.declared.reading.KnxFrame.{KnxFrame}
+use Rattle.knx.specs.declared.cemi_ldata.KnxLData.{KnxLData}
 use Rattle.cemi.specs.Cemi as Cemi
 use Rattle.cemi.specs.CemiLaws as CemiLaws
 use Rattle.cemi.specs.declared.CEMIFrame.{CEMIFrame}
-use Rattle.cemi.specs.declared.CEMIAnswer.the-variants as E
+use Rattle.cemi.specs.declared.CEMIAnswer.the-variants as CEMIAnswer
 use Rattle.header.specs.Header as Header
 use Rattle.header.specs.HeaderLaws as HeaderLaws
 use Rattle.header.specs.declared.KnxnetIpHeader.{KnxnetIpHeader}
 use Rattle.header.specs.declared.HeaderAnswer.{HeaderAnswer}
-use Rattle.header.specs.declared.HeaderAnswer.the-variants as H
+use Rattle.header.specs.declared.HeaderAnswer.the-variants as HeaderAnswer
 use Rattle.frame.specs.Frame as Frame
-use Rattle.frame.specs.Builder as Builder
+use Rattle.frame.specs.Builder as FrameBuilder
+use Rattle.frame.specs.Write as Write
 use Rattle.frame.specs.RoundTrip.{Back, Carries}
-use Rattle.frame.specs.RoundTrip as RoundTrip
-use Rattle.frame.specs.declared.fields.FrameFields.{FrameFields}
-use Rattle.frame.specs.declared.fields.FrameAnswer.{FrameAnswer}
-use Rattle.frame.specs.declared.fields.FrameAnswer.the-variants as F
+use Rattle.frame.specs.RoundTrip as FrameRoundTrip
+use Rattle.frame.specs.declared.frame.FrameFields.{FrameFields}
+use Rattle.frame.specs.declared.frame.FrameAnswer.{FrameAnswer}
+use Rattle.frame.specs.declared.frame.FrameAnswer.the-variants as FrameAnswer
 use Rattle.frame.specs.declared.builder.FrameBuilder.{FrameBuilder}
 use Rattle.hpai.specs.Hpai as Hpai
 use Rattle.hpai.specs.HpaiLaws as HpaiLaws
 use Rattle.hpai.specs.declared.Hpai.{Hpai}
 use Rattle.hpai.specs.declared.HpaiAnswer.{HpaiAnswer}
 use Rattle.wire.specs.Layout.{put}
-use Rattle.constants.specs.declared.ServiceType.the-variants as Code
+use Rattle.constants.specs.declared.services.ServiceType.the-variants as ServiceType
 use Rattle.connect.specs.Cri as Cri
 use Rattle.connect.specs.CriLaws as CriLaws
-use Rattle.connect.specs.Request as ConnectReq
+use Rattle.connect.specs.Request as ConnectRequest
 use Rattle.connect.specs.RequestLaws as ConnectRequestLaws
-use Rattle.connect.specs.Response as ConnectRes
+use Rattle.connect.specs.Response as ConnectResponse
 use Rattle.connect.specs.ResponseLaws as ConnectResponseLaws
 use Rattle.connect.specs.Channel as Channel
 use Rattle.connect.specs.ChannelLaws as ChannelLaws
 use Rattle.connect.specs.declared.cri.ConnectionRequestInfo.{ConnectionRequestInfo}
 use Rattle.connect.specs.declared.cri.ConnectionRequestInfoAnswer.{ConnectionRequestInfoAnswer}
-use Rattle.connect.specs.declared.cri.ConnectionRequestInfoAnswer.the-variants as I
+use Rattle.connect.specs.declared.cri.ConnectionRequestInfoAnswer.the-variants as ConnectionRequestInfoAnswer
 use Rattle.connect.specs.declared.request.ConnectRequest.{ConnectRequest}
 use Rattle.connect.specs.declared.response.ConnectResponse.{ConnectResponse}
 use Rattle.connect.specs.declared.channel.ConnectionStateRequest.{ConnectionStateRequest}
 use Rattle.connect.specs.declared.channel.DisconnectRequest.{DisconnectRequest}
 use Rattle.tunnelling.specs.Connection as Connection
 use Rattle.tunnelling.specs.ConnectionLaws as ConnectionLaws
-use Rattle.tunnelling.specs.Request as TunnelReq
-use Rattle.tunnelling.specs.RequestLaws as TunnelRequestLaws
-use Rattle.tunnelling.specs.Ack as Ack
-use Rattle.tunnelling.specs.AckLaws as AckLaws
+use Rattle.tunnelling.specs.Request as TunnelingRequest
+use Rattle.tunnelling.specs.RequestLaws as TunnelingRequestLaws
+use Rattle.tunnelling.specs.Ack as TunnelingAck
+use Rattle.tunnelling.specs.AckLaws as TunnelingAckLaws
 use Rattle.tunnelling.specs.declared.connection.ConnectionHeader.{ConnectionHeader}
 use Rattle.tunnelling.specs.declared.connection.ConnectionHeaderAnswer.{ConnectionHeaderAnswer}
-use Rattle.tunnelling.specs.declared.connection.ConnectionHeaderAnswer.the-variants as C
+use Rattle.tunnelling.specs.declared.connection.ConnectionHeaderAnswer.the-variants as ConnectionHeaderAnswer
 use Rattle.tunnelling.specs.declared.request.TunnelingRequest.{TunnelingRequest}
 use Rattle.tunnelling.specs.declared.ack.TunnelingAck.{TunnelingAck}
-use Rattle.tunnelling.specs.declared.ack.TunnelingAckAnswer.the-variants as A
+use Rattle.tunnelling.specs.declared.ack.TunnelingAckAnswer.the-variants as TunnelingAckAnswer
 
 -- ---- parsers
 
@@ -119,7 +120,7 @@ abbrev pub HasLayout : {A : Type 0} → (A → List ℕ) → (A → Told) → �
 HasLayout {A} layout tells size parse = (s : List ℕ) (a : A) → Bytes s → tells a ≡ parse s → take size s ≡ layout a
 
 abbrev pub header : KnxnetIpHeader → Told
-header h = Header.told (H.Header h)
+header h = Header.told (HeaderAnswer.Header h)
 
 pub header-reads-back : ReadsBack HeaderLaws.Proper Header.layout header Header.parseBy01
 header-reads-back = HeaderLaws.reads-back
@@ -146,39 +147,39 @@ Builds tells after =
 
 -- what `FrameBuilder::build` promises to tell and to leave in its buffer
 abbrev pub buildTells : ServiceType → List ℕ → List ℕ → Told
-buildTells s body b = tells (Builder.checks (length body) (length b)) (Builder.frame s body)
+buildTells s body b = tells (FrameBuilder.checks (length body) (length b)) (Write.frame s body)
 
 abbrev pub buildLeaves : ServiceType → List ℕ → List ℕ → List ℕ
-buildLeaves s body b = leaves (Builder.checks (length body) (length b)) (Builder.frame s body) b
+buildLeaves s body b = leaves (FrameBuilder.checks (length body) (length b)) (Write.frame s body) b
 
 pub frame-builds : Builds buildTells buildLeaves
-frame-builds = RoundTrip.builds
+frame-builds = FrameRoundTrip.builds
 
 -- ---- L_Data: what is built of a builder's fields and data is read back, and so is what a builder wrote
 
 -- fields and data that the builder takes
 abbrev pub ldataProper : LDataBuilder × List ℕ → Type 0
-ldataProper x = BuilderLaws.Builds (x .0) (length (x .1)) (9 + length (x .1))
+ldataProper x = LDataBuilderLaws.Builds (x .0) (length (x .1)) (9 + length (x .1))
 
 abbrev pub ldataBytes : LDataBuilder × List ℕ → List ℕ
 ldataBytes x = LDataBuilder.layout (x .0) (length (x .1) + 2) (x .1)
 
 abbrev pub ldata : LDataBuilder × List ℕ → Told
-ldata x = LData.told (L.Frame (LDataTrip.built (x .0) (length (x .1) + 2)))
+ldata x = LData.told (LDataAnswer.Frame (LDataRoundTrip.built (x .0) (length (x .1) + 2)))
 
 pub ldata-reads-back : ReadsBack ldataProper ldataBytes ldata (LData.parseBy01 crateCount)
 ldata-reads-back x rest p =
-    LDataTrip.reads-back (x .0) (length (x .1)) (9 + length (x .1)) p crateCount (length (x .1) + 2) (x .1) rest refl (LDataTrip.crate-counts (length (x .1)))
+    LDataRoundTrip.reads-back (x .0) (length (x .1)) (9 + length (x .1)) p crateCount (length (x .1) + 2) (x .1) rest refl (LDataRoundTrip.crate-counts (length (x .1)))
 
 -- wherever 01 lets it, an L_Data builder counts what it wrote, and fields, data and later bytes come back
 pub record LDataBack (b : LDataBuilder) (d buf after : List ℕ) : Type 0 where
   pub fields-back : LData.parseBy01 crateCount after ≡ ldata (b, d)
-  pub data-back : shown after (LData.dataBy01 crateCount (LDataTrip.built b (length d + 2)) after) ≡ d
+  pub data-back : shown after (LData.dataBy01 crateCount (LDataRoundTrip.built b (length d + 2)) after) ≡ d
   pub rest-back : drop (9 + length d) after ≡ drop (9 + length d) buf
 
 abbrev pub LDataBuilds : (LDataBuilder → List ℕ → List ℕ → Told) → (LDataBuilder → List ℕ → List ℕ → List ℕ) → Type 0
 LDataBuilds tells after =
-    (b : LDataBuilder) (d buf : List ℕ) → BuilderLaws.Builds b (length d) (length buf) → (tells b d buf ≡ done ((9 + length d) ∷ [])) × LDataBack b d buf (after b d buf)
+    (b : LDataBuilder) (d buf : List ℕ) → LDataBuilderLaws.Builds b (length d) (length buf) → (tells b d buf ≡ done ((9 + length d) ∷ [])) × LDataBack b d buf (after b d buf)
 
 -- what `LDataBuilder::build` promises to tell and to leave in its buffer
 abbrev pub ldataTells : LDataBuilder → List ℕ → List ℕ → Told
@@ -193,77 +194,77 @@ ldata-builds b d buf may =
     let w : List ℕ = ldataBytes (b, d) in
     let rest : List ℕ = drop (length w) buf in
     let cs : List Check = LDataBuilder.checks b n (length buf) in
-    let all : verdict cs ≡ Accept = BuilderLaws.stands b n (length buf) may in
-    let counts = LDataTrip.crate-counts n in
+    let all : verdict cs ≡ Accept = LDataBuilderLaws.stands b n (length buf) may in
+    let counts = LDataRoundTrip.crate-counts n in
     let long : 9 + n ≡ length w = omega arith in
     let into : onto buf w ≡ leaves cs w buf = sym (ap (λ (v : Verdict). lent v buf (onto buf w)) all) in
     let stood : LDataBack b d buf (onto buf w) = record {
-      fields-back = LDataTrip.reads-back b n (length buf) may crateCount (n + 2) d rest refl counts;
-      data-back = LDataTrip.data-back b n (length buf) may crateCount (n + 2) d rest refl counts;
+      fields-back = LDataRoundTrip.reads-back b n (length buf) may crateCount (n + 2) d rest refl counts;
+      data-back = LDataRoundTrip.data-back b n (length buf) may crateCount (n + 2) d rest refl counts;
       rest-back = ap (λ (k : ℕ). drop k (w ++ rest)) long ∙ drop-append-seam w rest ∙ ap (λ (k : ℕ). drop k buf) (sym long);
     } in
     (let-pass cs (done (length w ∷ [])) all ∙ ap (λ (k : ℕ). done (k ∷ [])) (sym long), subst (LDataBack b d buf) into stood)
 
 -- ---- round trips, from what one call promises to what the next one promises
 
-pub service-to-from : (s : ServiceType) (code : ℕ) (r : ServiceAnswer) → Services.ToPromise s code → Services.FromPromise code r → r ≡ S.Service s
+pub service-to-from : (s : ServiceType) (code : ℕ) (r : ServiceAnswer) → Services.ToPromise s code → Services.FromPromise code r → r ≡ ServiceAnswer.Service s
 service-to-from = ServiceLaws.from-to
 
-pub service-from-to : (code : ℕ) (s : ServiceType) → Services.FromPromise code (S.Service s) → Services.ToPromise s code
+pub service-from-to : (code : ℕ) (s : ServiceType) → Services.FromPromise code (ServiceAnswer.Service s) → Services.ToPromise s code
 service-from-to = ServiceLaws.to-from
 
-pub message-code-to-from : (m : CEMIMessageCode) (n : ℕ) (r : CEMIMessageCodeAnswer) → MessageCodes.ToPromise m n → MessageCodes.FromPromise n r → r ≡ M.Code m
+pub message-code-to-from : (m : CEMIMessageCode) (n : ℕ) (r : CEMIMessageCodeAnswer) → MessageCodes.ToPromise m n → MessageCodes.FromPromise n r → r ≡ CEMIMessageCodeAnswer.Code m
 message-code-to-from = MessageCodeLaws.from-to
 
-pub message-code-from-to : (n : ℕ) (m : CEMIMessageCode) → MessageCodes.FromPromise n (M.Code m) → MessageCodes.ToPromise m n
+pub message-code-from-to : (n : ℕ) (m : CEMIMessageCode) → MessageCodes.FromPromise n (CEMIMessageCodeAnswer.Code m) → MessageCodes.ToPromise m n
 message-code-from-to = MessageCodeLaws.to-from
 
 pub header-encode-parse : (h : KnxnetIpHeader) (b : List ℕ) (n : ℕ) (after : List ℕ) (r : HeaderAnswer)
-    → HeaderLaws.Proper h → Header.EncodePromise h b (W.Bytes n) after → Header.ParsePromise after r → r ≡ H.Header h
+    → HeaderLaws.Proper h → Header.EncodePromise h b (Written.Bytes n) after → Header.ParsePromise after r → r ≡ HeaderAnswer.Header h
 header-encode-parse = HeaderLaws.encode-parse
 
 pub hpai-encode-parse : (h : Hpai) (b : List ℕ) (n : ℕ) (after : List ℕ) (r : HpaiAnswer)
-    → HpaiLaws.Proper h → Hpai.EncodePromise h b (W.Bytes n) after → Hpai.ParsePromise after r → r ≡ HpaiLaws.accepted h
+    → HpaiLaws.Proper h → Hpai.EncodePromise h b (Written.Bytes n) after → Hpai.ParsePromise after r → r ≡ HpaiLaws.accepted h
 hpai-encode-parse = HpaiLaws.encode-parse
 
 pub frame-build-parse : (f : FrameBuilder) (body b : List ℕ) (n : ℕ) (after : List ℕ) (r : FrameAnswer)
-    → Builder.BuildPromise f body b (W.Bytes n) after → Frame.ParsePromise after r → r ≡ F.Frame (RoundTrip.built (f .«service_type») body)
-frame-build-parse = RoundTrip.build-parse
+    → FrameBuilder.BuildPromise f body b (Written.Bytes n) after → Frame.ParsePromise after r → r ≡ FrameAnswer.Frame (FrameRoundTrip.built (f .«service_type») body)
+frame-build-parse = FrameRoundTrip.build-parse
 
 pub frame-build-back : (f : FrameBuilder) (body b : List ℕ) (n : ℕ) (after : List ℕ)
-    → Builder.BuildPromise f body b (W.Bytes n) after → (n ≡ 6 + length body) × Back (f .«service_type») body b after
-frame-build-back = RoundTrip.build-back
+    → FrameBuilder.BuildPromise f body b (Written.Bytes n) after → (n ≡ 6 + length body) × Back (f .«service_type») body b after
+frame-build-back = FrameRoundTrip.build-back
 
 -- what a frame parse accepts is the header's layout and the body
-pub frame-has-layout : (s : List ℕ) (f : FrameFields) (body all : List ℕ) → Bytes s → Frame.ParsePromise s (F.Frame f)
+pub frame-has-layout : (s : List ℕ) (f : FrameFields) (body all : List ℕ) → Bytes s → Frame.ParsePromise s (FrameAnswer.Frame f)
     → Frame.BodyPartPromise f s body → Frame.DataPartPromise f s all → all ≡ Header.layout (f .header) ++ body
-frame-has-layout = RoundTrip.has-layout
+frame-has-layout = FrameRoundTrip.has-layout
 
 -- ---- services.rs: parsers
 
 pub cri-encode-decode : (c : ConnectionRequestInfo) (b : List ℕ) (n : ℕ) (after : List ℕ) (r : ConnectionRequestInfoAnswer)
-    → Cri.EncodePromise c b (W.Bytes n) after → Cri.DecodePromise after r → r ≡ I.Info c
+    → Cri.EncodePromise c b (Written.Bytes n) after → Cri.DecodePromise after r → r ≡ ConnectionRequestInfoAnswer.Info c
 cri-encode-decode = CriLaws.encode-decode
 
 -- but for the reserved byte, which is not looked at
-pub cri-has-layout : (s : List ℕ) (c : ConnectionRequestInfo) → Bytes s → Cri.DecodePromise s (I.Info c)
+pub cri-has-layout : (s : List ℕ) (c : ConnectionRequestInfo) → Bytes s → Cri.DecodePromise s (ConnectionRequestInfoAnswer.Info c)
     → take 4 s ≡ put Cri.fields (4 ∷ c .«connection_type» ∷ c .«knx_layer» ∷ getD s 3 0 ∷ [])
 cri-has-layout = CriLaws.has-layout
 
 pub connection-header-encode-decode : (h : ConnectionHeader) (b : List ℕ) (n : ℕ) (after : List ℕ) (r : ConnectionHeaderAnswer)
-    → Connection.EncodePromise h b (W.Bytes n) after → Connection.DecodePromise after r → r ≡ C.Header h
+    → Connection.EncodePromise h b (Written.Bytes n) after → Connection.DecodePromise after r → r ≡ ConnectionHeaderAnswer.Header h
 connection-header-encode-decode = ConnectionLaws.encode-decode
 
 -- but for the length byte and the reserved byte, which are not looked at
-pub connection-header-has-layout : (s : List ℕ) (h : ConnectionHeader) → Bytes s → Connection.DecodePromise s (C.Header h)
+pub connection-header-has-layout : (s : List ℕ) (h : ConnectionHeader) → Bytes s → Connection.DecodePromise s (ConnectionHeaderAnswer.Header h)
     → take 4 s ≡ put Connection.fields (getD s 0 0 ∷ h .«channel_id» ∷ h .«sequence_counter» ∷ getD s 3 0 ∷ [])
 connection-header-has-layout = ConnectionLaws.has-layout
 
-pub connect-response-reads-back : (c : ConnectResponse) (rest : List ℕ) → ConnectRes.Arrays c → c .«data_endpoint» .«structure_length» ≡ 8
-    → ConnectRes.parseBy01 (ConnectRes.layout c ++ rest) ≡ ConnectRes.told (ConnectResponseLaws.accepted c)
+pub connect-response-reads-back : (c : ConnectResponse) (rest : List ℕ) → ConnectResponse.Arrays c → c .«data_endpoint» .«structure_length» ≡ 8
+    → ConnectResponse.parseBy01 (ConnectResponse.layout c ++ rest) ≡ ConnectResponse.told (ConnectResponseLaws.accepted c)
 connect-response-reads-back = ConnectResponseLaws.reads-back
 
-pub connect-response-has-layout : (s : List ℕ) (c : ConnectResponse) → Bytes s → ConnectRes.ParsePromise s (ConnectResponseLaws.accepted c) → take 14 s ≡ ConnectRes.layout c
+pub connect-response-has-layout : (s : List ℕ) (c : ConnectResponse) → Bytes s → ConnectResponse.ParsePromise s (ConnectResponseLaws.accepted c) → take 14 s ≡ ConnectResponse.layout c
 connect-response-has-layout = ConnectResponseLaws.has-layout
 
 -- connection state and disconnect responses
@@ -271,35 +272,35 @@ pub status-has-layout : (s : List ℕ) (channel code : ℕ) → Bytes s → Chan
 status-has-layout = ChannelLaws.has-layout
 
 -- but for the two bytes of the connection header that are not looked at
-pub ack-has-layout : (s : List ℕ) (a : TunnelingAck) → Bytes s → Ack.ParsePromise s (A.Ack a)
-    → take 5 s ≡ put Ack.fields (getD s 0 0 ∷ a .«connection_header» .«channel_id» ∷ a .«connection_header» .«sequence_counter» ∷ getD s 3 0 ∷ a .status ∷ [])
-ack-has-layout = AckLaws.has-layout
+pub ack-has-layout : (s : List ℕ) (a : TunnelingAck) → Bytes s → TunnelingAck.ParsePromise s (TunnelingAckAnswer.Ack a)
+    → take 5 s ≡ put TunnelingAck.fields (getD s 0 0 ∷ a .«connection_header» .«channel_id» ∷ a .«connection_header» .«sequence_counter» ∷ getD s 3 0 ∷ a .status ∷ [])
+ack-has-layout = TunnelingAckLaws.has-layout
 
 -- ---- services.rs: builders, through the frame's parse and the body's
 
 -- n bytes were counted and p is what parsing the buffer answered: the count is right, p is the frame, and of its body the record is read back (`Reads`, beside each record)
 
 pub ack-round-trip : (a : TunnelingAck) (b : List ℕ) (n : ℕ) (after : List ℕ) (p : FrameAnswer)
-    → Ack.BuildPromise a b (W.Bytes n) after → Frame.ParsePromise after p → Carries Code.TunnellingAck 11 n after p (AckLaws.Reads a)
-ack-round-trip = AckLaws.round-trip
+    → TunnelingAck.BuildPromise a b (Written.Bytes n) after → Frame.ParsePromise after p → Carries ServiceType.TunnellingAck 11 n after p (TunnelingAckLaws.Reads a)
+ack-round-trip = TunnelingAckLaws.round-trip
 
 pub tunnel-request-round-trip : (t : TunnelingRequest) (cemi b : List ℕ) (n : ℕ) (after : List ℕ) (p : FrameAnswer)
-    → TunnelReq.BuildPromise t cemi b (W.Bytes n) after → Frame.ParsePromise after p → Carries Code.TunnellingRequest (10 + length cemi) n after p (TunnelRequestLaws.Reads t cemi)
-tunnel-request-round-trip = TunnelRequestLaws.round-trip
+    → TunnelingRequest.BuildPromise t cemi b (Written.Bytes n) after → Frame.ParsePromise after p → Carries ServiceType.TunnellingRequest (10 + length cemi) n after p (TunnelingRequestLaws.Reads t cemi)
+tunnel-request-round-trip = TunnelingRequestLaws.round-trip
 
 -- both endpoints and the request information
 pub connect-request-round-trip : (q : ConnectRequest) (b : List ℕ) (n : ℕ) (after : List ℕ) (p : FrameAnswer) → ConnectRequestLaws.Proper q
-    → ConnectReq.BuildPromise q b (W.Bytes n) after → Frame.ParsePromise after p → Carries Code.ConnectRequest 26 n after p (ConnectRequestLaws.Reads q)
+    → ConnectRequest.BuildPromise q b (Written.Bytes n) after → Frame.ParsePromise after p → Carries ServiceType.ConnectRequest 26 n after p (ConnectRequestLaws.Reads q)
 connect-request-round-trip = ConnectRequestLaws.round-trip
 
 -- channel and endpoint
 pub state-request-round-trip : (q : ConnectionStateRequest) (b : List ℕ) (n : ℕ) (after : List ℕ) (p : FrameAnswer) → HpaiLaws.Proper (q .«control_endpoint»)
-    → Channel.StateBuildPromise q b (W.Bytes n) after → Frame.ParsePromise after p → Carries Code.ConnectionstateRequest 16 n after p (ChannelLaws.Reads (q .«channel_id») (q .«control_endpoint»))
-state-request-round-trip q = ChannelLaws.round-trip Code.ConnectionstateRequest (q .«channel_id») (q .«control_endpoint»)
+    → Channel.StateBuildPromise q b (Written.Bytes n) after → Frame.ParsePromise after p → Carries ServiceType.ConnectionstateRequest 16 n after p (ChannelLaws.Reads (q .«channel_id») (q .«control_endpoint»))
+state-request-round-trip q = ChannelLaws.round-trip ServiceType.ConnectionstateRequest (q .«channel_id») (q .«control_endpoint»)
 
 pub disconnect-request-round-trip : (q : DisconnectRequest) (b : List ℕ) (n : ℕ) (after : List ℕ) (p : FrameAnswer) → HpaiLaws.Proper (q .«control_endpoint»)
-    → Channel.DisconnectBuildPromise q b (W.Bytes n) after → Frame.ParsePromise after p → Carries Code.DisconnectRequest 16 n after p (ChannelLaws.Reads (q .«channel_id») (q .«control_endpoint»))
-disconnect-request-round-trip q = ChannelLaws.round-trip Code.DisconnectRequest (q .«channel_id») (q .«control_endpoint»)
+    → Channel.DisconnectBuildPromise q b (Written.Bytes n) after → Frame.ParsePromise after p → Carries ServiceType.DisconnectRequest 16 n after p (ChannelLaws.Reads (q .«channel_id») (q .«control_endpoint»))
+disconnect-request-round-trip q = ChannelLaws.round-trip ServiceType.DisconnectRequest (q .«channel_id») (q .«control_endpoint»)
 
 -- ---- cemi.rs: control fields
 
@@ -317,67 +318,67 @@ control2-reads = FieldLaws.second-reads
 pub apci-code-back : (n : ℕ) → Application.codeOf (Application.apciOf n) ≡ n
 apci-code-back = PciLaws.code-back
 
-pub apci-never-unknown : (n m : ℕ) → Application.apciOf n ≡ P.Unknown m → noneOf n PciLaws.named ≡ true
+pub apci-never-unknown : (n m : ℕ) → Application.apciOf n ≡ Apci.Unknown m → noneOf n PciLaws.named ≡ true
 apci-never-unknown = PciLaws.never-unknown
 
 -- ---- cemi.rs: cEMI and L_Data
 
 -- what is accepted starts with the layout of the record, and its values are those that stand in the bytes
-pub cemi-has-layout : (s : List ℕ) (f : CEMIFrame) → Bytes s → Cemi.ParsePromise s (E.Frame f)
+pub cemi-has-layout : (s : List ℕ) (f : CEMIFrame) → Bytes s → Cemi.ParsePromise s (CEMIAnswer.Frame f)
     → take 2 s ≡ put Cemi.fields (MessageCodes.codeOf (f .«message_code») ∷ Cemi.infoLength s ∷ [])
 cemi-has-layout = CemiLaws.has-layout
 
-pub ldata-has-layout : (s : List ℕ) (f : LDataFields) → Bytes s → LData.ParsePromise s (L.Frame f)
+pub ldata-has-layout : (s : List ℕ) (f : LDataFields) → Bytes s → LData.ParsePromise s (LDataAnswer.Frame f)
     → take 8 s ≡ put LData.fields (f .ctrl1 .raw ∷ f .ctrl2 .raw ∷ f .source .0 ∷ f .«destination_raw» ∷ f .«npdu_length» ∷ getD s 7 0 ∷ [])
 ldata-has-layout s f b p = LDataLaws.has-layout crateCount s f p b (omega arith)
 
-pub ldata-reads : (s : List ℕ) (f : LDataFields) → LData.ParsePromise s (L.Frame f) → LData.values f ≡ LData.held s
+pub ldata-reads : (s : List ℕ) (f : LDataFields) → LData.ParsePromise s (LDataAnswer.Frame f) → LData.values f ≡ LData.valuesIn s
 ldata-reads = LDataLaws.read crateCount
 
 -- a control packet is never a group read, although its code is a group read's
-pub control-never-reads : (s : List ℕ) (f : LDataFields) (r : Bool) → LData.ParsePromise s (L.Frame f) → LData.dataByte (getD s 7 0) ≡ false → LData.IsServicePromise 0x000 f r → r ≡ false
+pub control-never-reads : (s : List ℕ) (f : LDataFields) (r : Bool) → LData.ParsePromise s (LDataAnswer.Frame f) → LData.dataByte (getD s 7 0) ≡ false → LData.IsServicePromise 0x000 f r → r ≡ false
 control-never-reads = LDataLaws.control-never
 
 -- the three questions of a service are by its name: a yes says which variant it is
-pub is-group-write : (f : LDataFields) → LData.IsServicePromise 0x080 f true → f .apci ≡ P.GroupValueWrite
+pub is-group-write : (f : LDataFields) → LData.IsServicePromise 0x080 f true → f .apci ≡ Apci.GroupValueWrite
 is-group-write f p = PciLaws.named-is (f .apci) 0x080 (sym p)
 
-pub is-group-read : (f : LDataFields) → LData.IsServicePromise 0x000 f true → f .apci ≡ P.GroupValueRead
+pub is-group-read : (f : LDataFields) → LData.IsServicePromise 0x000 f true → f .apci ≡ Apci.GroupValueRead
 is-group-read f p = PciLaws.named-is (f .apci) 0x000 (sym p)
 
-pub is-group-response : (f : LDataFields) → LData.IsServicePromise 0x040 f true → f .apci ≡ P.GroupValueResponse
+pub is-group-response : (f : LDataFields) → LData.IsServicePromise 0x040 f true → f .apci ≡ Apci.GroupValueResponse
 is-group-response f p = PciLaws.named-is (f .apci) 0x040 (sym p)
 
 -- ---- the L_Data builder, with no premise but that it answered
 
 pub ldata-build-parse : (b : LDataBuilder) (d buf : List ℕ) (n : ℕ) (after : List ℕ) (r : LDataAnswer)
-    → LDataBuilder.BuildPromise b d buf (W.Bytes n) after → LData.ParsePromise after r → r ≡ L.Frame (LDataTrip.built b (length d + 2))
-ldata-build-parse = LDataTrip.parsed
+    → LDataBuilder.BuildPromise b d buf (Written.Bytes n) after → LData.ParsePromise after r → r ≡ LDataAnswer.Frame (LDataRoundTrip.built b (length d + 2))
+ldata-build-parse = LDataRoundTrip.parsed
 
 pub ldata-round-trip : (b : LDataBuilder) (d buf : List ℕ) (n : ℕ) (after : List ℕ) (f : LDataFields) (part : List ℕ) (six : ℕ)
-    → LDataBuilder.BuildPromise b d buf (W.Bytes n) after → LData.ParsePromise after (L.Frame f) → LData.DataPartPromise f after part
-    → Application.SixBitPromise (getD after 8 0) six → LDataTrip.Back b d n f part six
-ldata-round-trip = LDataTrip.round-trip
+    → LDataBuilder.BuildPromise b d buf (Written.Bytes n) after → LData.ParsePromise after (LDataAnswer.Frame f) → LData.DataPartPromise f after part
+    → Application.SixBitPromise (getD after 8 0) six → LDataRoundTrip.Back b d n f part six
+ldata-round-trip = LDataRoundTrip.round-trip
 
 -- ---- the records that hold their slice, and the C border, agree with the records below them
 
-pub views-body : (s : List ℕ) (f : KnxnetIpFrame) (r : List ℕ) → KnxnetIp.ParsePromise s f → KnxnetIp.BodyPromise f r → KnxnetIp.BodyInPromise s r
-views-body = KnxnetIpLaws.body-in
+pub borrowed-body : (s : List ℕ) (f : KnxnetIpFrame) (r : List ℕ) → KnxnetIpFrame.ParsePromise s f → KnxnetIpFrame.BodyPromise f r → KnxnetIpFrame.BodyInPromise s r
+borrowed-body = KnxnetIpFrameLaws.body-in
 
-pub views-data : (s : List ℕ) (f : LDataFields) → LData.ParsePromise s (L.Frame f) → shown s (LData.dataBy01 crateCount f s) ≡ LDataView.dataIn s
-views-data = LDataViewLaws.fields-data
+pub borrowed-data : (s : List ℕ) (f : LDataFields) → LData.ParsePromise s (LDataAnswer.Frame f) → shown s (LData.dataBy01 crateCount f s) ≡ LDataFrame.dataIn s
+borrowed-data = LDataFrameLaws.fields-data
 
-pub views-held-data : (s : List ℕ) (f : LDataFrame) (r : List ℕ) → LDataView.ParsePromise s f → LDataView.DataPromise f r → LDataView.DataInPromise s r
-views-held-data = LDataViewLaws.data-in
+pub borrowed-record-data : (s : List ℕ) (f : LDataFrame) (r : List ℕ) → LDataFrame.ParsePromise s f → LDataFrame.DataPromise f r → LDataFrame.DataInPromise s r
+borrowed-record-data = LDataFrameLaws.data-in
 
 -- the view of a frame is the one that `FrameFields::body` answers
-pub border-body : (s : List ℕ) (r : KnxFrame) (f : FrameFields) (v : View) → Reading.FramePromise s r → Frame.ParsePromise s (F.Frame f) → Frame.BodyPromise f s v
+pub border-body : (s : List ℕ) (r : KnxFrame) (f : FrameFields) (v : View) → KnxReading.FramePromise s r → Frame.ParsePromise s (FrameAnswer.Frame f) → Frame.BodyPromise f s v
     → (r .start ≡ v .start) × (r .end ≡ v .end)
-border-body = ReadingLaws.body-as
+border-body = KnxReadingLaws.body-as
 
 -- the numbers of `knx_cemi_ldata` are those of the records that `parse`, `as_ldata` and `data` answer
 pub border-ldata : (s : List ℕ) (r : KnxLData) (f : CEMIFrame) (g : LDataFields) (v : View)
-    → CemiLData.CemiLDataPromise s r → Cemi.ParsePromise s (E.Frame f) → Cemi.AsLDataPromise f s (L.Frame g) → LData.DataPromise g (Cemi.serviceInfo s) v
+    → CemiLData.CemiLDataPromise s r → Cemi.ParsePromise s (CEMIAnswer.Frame f) → Cemi.AsLDataPromise f s (LDataAnswer.Frame g) → LData.DataPromise g (Cemi.serviceInfo s) v
     → CemiLData.told r ≡ record {
       number = 0;
       values = MessageCodes.codeOf (f .«message_code») ∷ LData.values g ++ CemiLData.sixBitIn (isData (g .tpci)) (getD (Cemi.serviceInfo s) 8 0) ∷ [];

@@ -5,16 +5,16 @@ use mathlib.Core.List.{List, []}
 use mathlib.Core.Option.{none, some}
 use lib.ListN.{length, getD, drop}
 use Rattle.wire.specs.Parts.{partOf}
-use Rattle.datagram.specs.Heard.{cemiStart, heardBy01}
-use Rattle.datagram.specs.declared.Heard.the-variants.{Request, Ack}
-use Rattle.datagram.specs.WrittenHeard as WrittenHeard
+use Rattle.tunnel_datagram.specs.Hearing.{cemiStart, heardBy01}
+use Rattle.tunnel_datagram.specs.declared.hearing.Heard.the-variants.{Request, Ack}
+use Rattle.tunnel_datagram.specs.WrittenHeard as WrittenHeard
 use Rattle.frame.specs.Frame as Frame
-use Rattle.frame.specs.declared.fields.FrameFields.{FrameFields}
-use Rattle.frame.specs.declared.fields.FrameAnswer.the-variants as F
-use Rattle.tunnelling.specs.Request as TunnelRequest
+use Rattle.frame.specs.declared.frame.FrameFields.{FrameFields}
+use Rattle.frame.specs.declared.frame.FrameAnswer.the-variants as FrameAnswer
+use Rattle.tunnelling.specs.Request as TunnelingRequest
 use Rattle.tunnelling.specs.declared.request.TunnelingRequest.{TunnelingRequest}
-use Rattle.tunnelling.specs.declared.request.TunnelingRequestAnswer.the-variants as R
-use Rattle.tunnel.specs.declared.Tunnel.{Tunnel}
+use Rattle.tunnelling.specs.declared.request.TunnelingRequestAnswer.the-variants as TunnelingRequestAnswer
+use Rattle.tunnel.specs.declared.rules.Tunnel.{Tunnel}
 use Rattle.tunnel_model.specs.Firsts.{countOf}
 use Rattle.tunnel_model.specs.Store.{IsolatesAt, Isolates, Opening, Opens, reached, names, tableTrace, loneTrace, callsOf}
 use Rattle.tunnel_model.specs.Places.{holds}
@@ -22,45 +22,45 @@ use Rattle.tunnel_model.specs.PlacesLaws.{Kept}
 use Rattle.tunnel_model.specs.Calls.{Call, Open, Send, Datagram}
 use Rattle.tunnel_model.specs.Lone.{lone}
 use Rattle.tunnel_model.specs.Table.{chan, tableOf}
-use Rattle.tunnel_model.specs.Demand3 as Model
+use Rattle.tunnel_model.specs.Demand3 as ModelDemand3
 use Rattle.tunnel_model.specs.Opening.{OpenSays}
 use Rattle.tunnel_model.specs.Opening as Opening
 use Rattle.tunnel_model.specs.RunLaws as RunLaws
 use Rattle.tunnel_model.specs.Exchange as Exchange
-use Rattle.table.specs.Places.{kind, kindLaws}
-use Rattle.table.specs.Table.{EmptyPromise, CallPromise}
-use Rattle.table.specs.Compiled as Compiled
-use Rattle.table.specs.declared.places.Place.{Place}
-use Rattle.table.specs.declared.calls.Table.{Table}
-use Rattle.table.specs.declared.calls.Called.{Called}
-use Rattle.image.specs.Image.{unpacked}
-use Rattle.image.specs.Demand3.{emptyImage, imageTable}
-use Rattle.image.specs.Demand3 as Image
-use Rattle.host.specs.Called as HostCalled
-use Rattle.host.specs.CalledLaws.{empty-is}
-use Rattle.host.specs.Runs as Runs
-use Rattle.host.specs.declared.building.KnxWritten.{KnxWritten}
-use Rattle.host.specs.declared.called.KnxCalled.{KnxCalled}
+use Rattle.tunnel_table.specs.Places.{kind, kindLaws}
+use Rattle.tunnel_table.specs.Table.{EmptyPromise, CallPromise}
+use Rattle.tunnel_table.specs.Compiled as Compiled
+use Rattle.tunnel_table.specs.declared.places.Place.{Place}
+use Rattle.tunnel_table.specs.declared.table.Table.{Table}
+use Rattle.tunnel_table.specs.declared.table.Called.{Called}
+use Rattle.tunnel_image.specs.Image.{unpacked}
+use Rattle.tunnel_image.specs.Demand3.{emptyImage, imageTable}
+use Rattle.tunnel_image.specs.Demand3 as ImageDemand3
+use Rattle.knx.specs.Called as Called
+use Rattle.knx.specs.CalledLaws.{empty-is}
+use Rattle.knx.specs.Runs as KnxRuns
+use Rattle.knx.specs.declared.building.KnxWritten.{KnxWritten}
+use Rattle.knx.specs.declared.called.KnxCalled.{KnxCalled}
 
 -- ---- the table
 
 -- from any table that calls reach with B open, until B is closed, B's calls get what a lone tunnel gives that is fed B's calls only
 pub isolates : Isolates chan (tableOf kind 8)
-isolates = Model.isolates kind kindLaws 8
+isolates = ModelDemand3.isolates kind kindLaws 8
 
 -- and from any table of eight places in which no id stands twice, whether calls reach it or not
 pub isolates-from : (l : List Place) → Kept kind kindLaws 8 l → IsolatesAt chan (tableOf kind 8) l
-isolates-from = Model.isolates-from kind kindLaws 8
+isolates-from = ModelDemand3.isolates-from kind kindLaws 8
 
 -- whatever the other channels do: two lists with the same calls of B give B the same
 pub no-difference : (before calls others : List Call) (b : ℕ) (p : Tunnel) → tableOf kind 8 .look b (reached chan (tableOf kind 8) before) ≡ some p
     → callsOf chan (names chan b) calls ≡ callsOf chan (names chan b) others
     → tableTrace chan (tableOf kind 8) (names chan b) b (reached chan (tableOf kind 8) before) calls ≡ tableTrace chan (tableOf kind 8) (names chan b) b (reached chan (tableOf kind 8) before) others
-no-difference = Model.no-difference kind kindLaws 8
+no-difference = ModelDemand3.no-difference kind kindLaws 8
 
 -- opening: refused exactly if eight other ids are open, and else B starts afresh
 pub opens : Opens chan 8 (tableOf kind 8)
-opens = Model.opens-as-said kind kindLaws 8
+opens = ModelDemand3.opens-as-said kind kindLaws 8
 
 -- by numbers: 7 exactly if open, 8 exactly if not open and eight other ids are, else 0 and afresh
 pub open-says : (before : List Call) (b : ℕ) → OpenSays kind 8 (reached chan (tableOf kind 8) before) b
@@ -68,7 +68,7 @@ open-says = Opening.open-says kind 8 kindLaws
 
 -- no id is ever open twice
 pub one-place : (calls : List Call) (b : ℕ) → countOf (holds kind b) (reached chan (tableOf kind 8) calls) ≤ 1
-one-place = Model.one-place kind kindLaws 8
+one-place = ModelDemand3.one-place kind kindLaws 8
 
 -- ---- lists of compiled calls from the compiled empty table, each with what its contract promises
 
@@ -106,41 +106,41 @@ module _ (start : Table) (begun : EmptyPromise start) (before : List Call) (gs :
 -- ---- a table that is lent as a byte image, from the image of the empty table with any bytes behind it
 
 pub image-isolates : (rest : List ℕ) → Isolates chan (imageTable rest)
-image-isolates = Image.image-isolates
+image-isolates = ImageDemand3.image-isolates
 
 pub image-opens : (rest : List ℕ) → Opens chan 8 (imageTable rest)
-image-opens = Image.image-opens
+image-opens = ImageDemand3.image-opens
 
 -- and lists of calls from C on an image that `knx_table_empty` wrote
-module _ (image start : List ℕ) (w : KnxWritten) (emptied : HostCalled.EmptyPromise image w start) (done : w .number ≡ 0) (before : List Call) (gs : List Runs.Given) (ran : Runs.Ran (drop 40 image) start before gs) where
+module _ (image start : List ℕ) (w : KnxWritten) (emptied : Called.EmptyPromise image w start) (done : w .number ≡ 0) (before : List Call) (gs : List KnxRuns.Given) (ran : KnxRuns.Ran (drop 40 image) start before gs) where
   -- what stands behind the image
   abbrev rest : List ℕ
   rest = drop 40 image
 
   -- the image that the last of them left
   abbrev pub left : List ℕ
-  left = Runs.lastOf rest start gs
+  left = KnxRuns.lastOf rest start gs
 
   begun : start ≡ emptyImage rest
   begun = empty-is image w start emptied done
 
-  pub border-isolates : (calls : List Call) (hs : List Runs.Given) (b : ℕ) (p : Tunnel) → Runs.Ran rest left calls hs → imageTable rest .look b left ≡ some p
-      → Runs.seenBy rest b left calls hs ≡ loneTrace chan (some p) (callsOf chan (names chan b) calls)
-  border-isolates = RunLaws.run-isolates chan (imageTable rest) Runs.Given Runs.given-as start begun before gs ran (image-isolates rest)
+  pub border-isolates : (calls : List Call) (hs : List KnxRuns.Given) (b : ℕ) (p : Tunnel) → KnxRuns.Ran rest left calls hs → imageTable rest .look b left ≡ some p
+      → KnxRuns.seenBy rest b left calls hs ≡ loneTrace chan (some p) (callsOf chan (names chan b) calls)
+  border-isolates = RunLaws.run-isolates chan (imageTable rest) KnxRuns.Given KnxRuns.given-as start begun before gs ran (image-isolates rest)
 
-  pub border-no-difference : (calls others : List Call) (hs is : List Runs.Given) (b : ℕ) (p : Tunnel) → Runs.Ran rest left calls hs → Runs.Ran rest left others is
+  pub border-no-difference : (calls others : List Call) (hs is : List KnxRuns.Given) (b : ℕ) (p : Tunnel) → KnxRuns.Ran rest left calls hs → KnxRuns.Ran rest left others is
       → imageTable rest .look b left ≡ some p → callsOf chan (names chan b) calls ≡ callsOf chan (names chan b) others
-      → Runs.seenBy rest b left calls hs ≡ Runs.seenBy rest b left others is
-  border-no-difference = RunLaws.run-no-difference chan (imageTable rest) Runs.Given Runs.given-as start begun before gs ran (image-isolates rest)
+      → KnxRuns.seenBy rest b left calls hs ≡ KnxRuns.seenBy rest b left others is
+  border-no-difference = RunLaws.run-no-difference chan (imageTable rest) KnxRuns.Given KnxRuns.given-as start begun before gs ran (image-isolates rest)
 
-  pub border-opens : (r : KnxCalled) (b : ℕ) (after : List ℕ) → HostCalled.OpenPromise left b r after → imageTable rest .look b left ≡ none
-      → Opening chan (imageTable rest) 8 b left (Open b) (Runs.given-as ((r, []), after))
+  pub border-opens : (r : KnxCalled) (b : ℕ) (after : List ℕ) → Called.OpenPromise left b r after → imageTable rest .look b left ≡ none
+      → Opening chan (imageTable rest) 8 b left (Open b) (KnxRuns.given-as ((r, []), after))
   border-opens r b after p e =
-      RunLaws.run-opens chan (imageTable rest) Runs.Given Runs.given-as start begun before gs ran 8 (image-opens rest) (Open b) ((r, []), after) b p refl refl e
+      RunLaws.run-opens chan (imageTable rest) KnxRuns.Given KnxRuns.given-as start begun before gs ran 8 (image-opens rest) (Open b) ((r, []), after) b p refl refl e
 
   pub border-one-place : (b : ℕ) → countOf (holds kind b) (unpacked left) ≤ 1
   border-one-place b =
-      subst (λ (l : List ℕ). countOf (holds kind b) (unpacked l) ≤ 1) (sym (RunLaws.there chan (imageTable rest) Runs.Given Runs.given-as start begun before gs ran)) (Image.image-one-place rest before b)
+      subst (λ (l : List ℕ). countOf (holds kind b) (unpacked l) ≤ 1) (sym (RunLaws.there chan (imageTable rest) KnxRuns.Given KnxRuns.given-as start begun before gs ran)) (ImageDemand3.image-one-place rest before b)
 
 -- ---- what one table writes, another hears
 
@@ -157,6 +157,6 @@ ack-heard = Exchange.ack-heard
 
 -- the cEMI that is heard is the part that the frame's parse and the body's hand out
 pub cemi-same : (s : List ℕ) (f : FrameFields) (body : List ℕ) (q : TunnelingRequest) (cemi : List ℕ)
-    → Frame.ParsePromise s (F.Frame f) → Frame.BodyPartPromise f s body → TunnelRequest.ParsePromise body (R.Request q) → TunnelRequest.CemiPartPromise body cemi
+    → Frame.ParsePromise s (FrameAnswer.Frame f) → Frame.BodyPartPromise f s body → TunnelingRequest.ParsePromise body (TunnelingRequestAnswer.Request q) → TunnelingRequest.CemiPartPromise body cemi
     → cemi ≡ partOf s cemiStart (f .header .«total_length»)
 cemi-same = WrittenHeard.cemi-same

@@ -11,27 +11,27 @@ use lib.Dec.{eqb}
 use borrow.Author.Tests.{eq-eqb}
 use Rattle.wire.specs.Told.{Told, done}
 use Rattle.wire.specs.declared.refusals.Refusal.the-variants.{TableFull}
-use Rattle.constants.specs.declared.ServiceType.{ServiceType}
-use Rattle.constants.specs.declared.ServiceType.the-variants.{TunnellingRequest}
+use Rattle.constants.specs.declared.services.ServiceType.{ServiceType}
+use Rattle.constants.specs.declared.services.ServiceType.the-variants.{TunnellingRequest}
 use Rattle.header.specs.Header as Header
 use Rattle.header.specs.HeaderLaws as HeaderLaws
 use Rattle.header.specs.declared.KnxnetIpHeader.{KnxnetIpHeader}
 use Rattle.frame.specs.RoundTrip.{stands-first}
 use Rattle.pci.specs.declared.transport.Tpci.the-variants.{UnnumberedData}
-use Rattle.ldata.specs.BuilderLaws as BuilderLaws
+use Rattle.ldata.specs.BuilderLaws as LDataBuilderLaws
 use Rattle.ldata.specs.declared.builder.LDataBuilder.{LDataBuilder}
-use Rattle.datagram.specs.Heard.{heardBy01}
-use Rattle.datagram.specs.declared.Heard.{Heard}
-use Rattle.datagram.specs.declared.Heard.the-variants.{Request, Ack, Refused}
+use Rattle.tunnel_datagram.specs.Hearing.{heardBy01}
+use Rattle.tunnel_datagram.specs.declared.hearing.Heard.{Heard}
+use Rattle.tunnel_datagram.specs.declared.hearing.Heard.the-variants.{Request, Ack, Refused}
 use Rattle.tunnel.specs.Rules.{afresh}
-use Rattle.tunnel.specs.declared.Said.the-variants.{Ignored}
-use Rattle.tunnel_model.specs.Firsts.{bit, isNone, countOf}
+use Rattle.tunnel.specs.declared.rules.Said.the-variants.{Ignored}
+use Rattle.tunnel_model.specs.Firsts.{oneIf, isNone, countOf}
 use Rattle.tunnel_model.specs.FirstLaws.{clash, none-some}
 use Rattle.tunnel_model.specs.Store.{Machine, Seen, Isolates, Others, Opens}
 use Rattle.tunnel_model.specs.Calls.{Call, Open, Close, Timeout, Send, Datagram, Outcome, outOf, refuses, says}
 use Rattle.tunnel_model.specs.Table.{chan, emptyOf, tableOf}
-use Rattle.table.specs.Places.{kind}
-use Rattle.table.specs.declared.places.Place.{Place}
+use Rattle.tunnel_table.specs.Places.{kind}
+use Rattle.tunnel_table.specs.declared.places.Place.{Place}
 use Rattle.claims.specs.Demand2.{ReadsBack, header, Builds, ldataProper, ldataBytes, ldata, LDataBuilds}
 use Rattle.claims.specs.Examples.{request, room}
 
@@ -78,7 +78,7 @@ writing control-1 = record {
   «six_bit» = 1;
 }
 
-writing-proper : (control-1 m : ℕ) → 9 ≤ m → BuilderLaws.Builds (writing control-1) 0 m
+writing-proper : (control-1 m : ℕ) → 9 ≤ m → LDataBuilderLaws.Builds (writing control-1) 0 m
 writing-proper control-1 m h = record {
   data-packet = refl;
   sequence-15 = omega arith;
@@ -196,7 +196,7 @@ module _ (M : Machine chan) (hidden : (b : ℕ) (l : M .Table) → M .look b l �
     where
       go : (is : List ℕ) → length is ≡ 8 → ((i : ℕ) → 1 ≤ countOf (λ j. eqb j i) is → isNone (M .look i l) ≡ false) → ⊥
       go [] k all = let z : _≡_ {A = ℕ} 0 8 = k in omega arith
-      go (i ∷ is) k all = clash (sym (ap isNone (hidden i l)) ∙ all i (let h = ap bit (eq-eqb i i refl) in omega arith))
+      go (i ∷ is) k all = clash (sym (ap isNone (hidden i l)) ∙ all i (let h = ap oneIf (eq-eqb i i refl) in omega arith))
 
   pub never-opens : Opens chan 8 M → ⊥
   never-opens f =

@@ -9,18 +9,18 @@ use borrow.Author.Tests.{eq-eqb}
 use Rattle.wire.specs.Told.{done}
 use Rattle.wire.specs.declared.refusals.Refusal.the-variants.{BufferTooSmall, AlreadyOpen}
 use Rattle.tunnel.specs.Rules.{afresh, arrivalOf}
-use Rattle.tunnel.specs.declared.Wait.the-variants.{Idle, First, Second}
-use Rattle.tunnel.specs.declared.Tunnel.{Tunnel}
-use Rattle.tunnel.specs.declared.Said.the-variants.{Nothing, Repeat, Deliver, Duplicate, Sent}
-use Rattle.tunnel.specs.declared.Arrival.{Arrival}
-use Rattle.tunnel.specs.declared.Arrival.the-variants as A
+use Rattle.tunnel.specs.declared.rules.Wait.the-variants.{Idle, First, Second}
+use Rattle.tunnel.specs.declared.rules.Tunnel.{Tunnel}
+use Rattle.tunnel.specs.declared.rules.Said.the-variants.{Nothing, Repeat, Deliver, Duplicate, Sent}
+use Rattle.tunnel.specs.declared.rules.Arrival.{Arrival}
+use Rattle.tunnel.specs.declared.rules.Arrival.the-variants as Arrival
 use Rattle.tunnel_model.specs.Store.{Seen, run, reached, names, tableTrace, loneTrace, callsOf, seen}
 use Rattle.tunnel.specs.Numbers.{saidOf}
 use Rattle.tunnel_model.specs.Calls.{Call, Open, Close, Timeout, Send, Datagram, refuses, says}
 use Rattle.tunnel_model.specs.Lone.{arrived}
 use Rattle.tunnel_model.specs.Table.{chan, tableOf}
-use Rattle.table.specs.Places.{kind}
-use Rattle.table.specs.declared.places.Place.{Place}
+use Rattle.tunnel_table.specs.Places.{kind}
+use Rattle.tunnel_table.specs.declared.places.Place.{Place}
 use Rattle.claims.specs.Demand3.{isolates}
 
 -- a request of a channel with a number and the cEMI bytes 29 00, and one byte more that the total length leaves out
@@ -120,7 +120,7 @@ climbs (suc k) h =
     let c : Call = Datagram (request 21 k) room in
     let there : tableOf kind 8 .look 21 l ≡ some p = climbs k (omega arith) in
     let x : Seen chan = (tableOf kind 8 .step l c .0, tableOf kind 8 .look 21 (tableOf kind 8 .step l c .1)) in
-    let arrives : arrivalOf p k ≡ A.Deliver = simp (eq-eqb k k refl) in
+    let arrives : arrivalOf p k ≡ Arrival.Deliver = simp (eq-eqb k k refl) in
     let next : (k + 1) % 256 ≡ suc k = omega arith in
     ap (tableOf kind 8 .look 21) (run-on (tableOf kind 8 .start) (asked k) (c ∷ []))
     ∙ ap (λ (o : Option Tunnel). lastSeen (seen chan o true x [])) (sym there)

@@ -7,27 +7,27 @@ use mathlib.Core.List.{List, [], _∷_, _++_}
 use lib.ListN.{length, take, drop, replicate}
 use Rattle.wire.specs.LayoutLaws.{Bytes}
 use Rattle.wire.specs.declared.refusals.Written.the-variants as Written
-use Rattle.kip.specs.Capture.{startsBy01, whole, recordsOf, leftOf, NextPromise}
+use Rattle.kip.specs.Capture.{startsBy01, whole, recordsOf, unfinishedOf, NextPromise}
 use Rattle.kip.specs.CaptureLaws as CaptureLaws
 use Rattle.kip.specs.Stepping.{Move, Named, HandedOn, begun, ran}
 use Rattle.kip.specs.Stepping as Stepping
 use Rattle.kip.specs.declared.capture.Next.the-variants.{Record}
 use Rattle.digits.specs.Digits.{digitsOf, decimal, hexDigit, readFrom, tens, hexValue}
 use Rattle.digits.specs.DigitLaws as DigitLaws
-use Rattle.kip_inspect.specs.Line.{headingOf, lineOf, endingOf, EndingPromise}
-use Rattle.kip_inspect.specs.Scan.{scanned, scanOf, ScanPromise}
-use Rattle.kip_inspect.specs.Output.{printedBy01}
-use Rattle.kip_inspect.specs.Printed.{Printed}
-use Rattle.kip_inspect.specs.Printed as Printing
-use Rattle.kip_inspect.specs.Inspecting.{Inspecting, Step, ScanOn, WriteOut, ToFront, ReadOn, SoFar, AtEnd, unread, gathered, stepped, inspecting, output}
-use Rattle.kip_inspect.specs.Inspecting as Inspects
-use Rattle.kip_inspect.specs.Turns.{readIn, first, WrittenOutPromise, ReadOnPromise, ToFrontPromise}
-use Rattle.kip_inspect.specs.Reached.{Reached, Inspected, restIn}
-use Rattle.kip_inspect.specs.Reached as Reaching
-use Rattle.kip_inspect.specs.declared.scanning.Spot.{Spot}
-use Rattle.kip_inspect.specs.declared.scanning.Scanned.{Scanned}
-use Rattle.kip_inspect.specs.declared.scanning.Stop.the-variants.{Short}
-use Rattle.kip_inspect.specs.declared.turns.Progress.{Progress}
+use Rattle.inspection.specs.Lines.{headingOf, lineOf, endingOf, EndingPromise}
+use Rattle.inspection.specs.Scanning.{scanned, scanOf, ScanPromise}
+use Rattle.inspection.specs.Output.{printedBy01}
+use Rattle.inspection.specs.Printing.{Printed}
+use Rattle.inspection.specs.Printing as Printing
+use Rattle.inspection.specs.Inspecting.{Inspecting, Step, ScanOn, WriteOut, ToFront, ReadOn, SoFar, AtEnd, unread, gathered, stepped, inspecting, output}
+use Rattle.inspection.specs.Inspecting as Inspecting
+use Rattle.inspection.specs.Turns.{readIn, first, WrittenOutPromise, ReadOnPromise, ToFrontPromise}
+use Rattle.inspection.specs.Reaching.{Reached, Inspected, restIn}
+use Rattle.inspection.specs.Reaching as Reaching
+use Rattle.inspection.specs.declared.scanning.Spot.{Spot}
+use Rattle.inspection.specs.declared.scanning.Scanned.{Scanned}
+use Rattle.inspection.specs.declared.scanning.Stop.the-variants.{Short}
+use Rattle.inspection.specs.declared.turns.Progress.{Progress}
 
 -- whatever moves hand on records and read on: when all is read and no whole record is left, the records of the whole were handed on, in order, and what is left is the unfinished one
 pub hands-on : (s : List ℕ) (ms : List Move) → ran (begun s) ms .ahead ≡ [] → whole (ran (begun s) ms .unread) ≡ false → HandedOn s (ran (begun s) ms)
@@ -55,28 +55,28 @@ start-known = CaptureLaws.starts-more
 
 -- once the start is read, whatever turns scan the buffer, write out what is gathered, move what is left to the front and read on: what was printed are the start's line and those of the first records of the capture, and the others are still to come
 pub prints-so-far : (k : ℕ) (s : List ℕ) → startsBy01 (take k s) ≡ true → (out : List ℕ) (ms : List Step) → SoFar s (inspecting k s out ms)
-prints-so-far = Inspects.prints-so-far
+prints-so-far = Inspecting.prints-so-far
 
 -- and when all is read and no whole record is left unread, those of all its records, which are counted, and what is unread is the unfinished one
 pub prints-all : (k : ℕ) (s out : List ℕ) (ms : List Step) → startsBy01 (take k s) ≡ true → inspecting k s out ms .ahead ≡ [] → whole (unread (inspecting k s out ms)) ≡ false → AtEnd s (inspecting k s out ms)
-prints-all = Inspects.prints-all
+prints-all = Inspecting.prints-all
 
 -- so that with the ending all that is written is what 01 says
 pub inspects : (k : ℕ) (s out : List ℕ) (ms : List Step) → startsBy01 (take k s) ≡ true → inspecting k s out ms .ahead ≡ [] → whole (unread (inspecting k s out ms)) ≡ false
     → output (inspecting k s out ms) ≡ printedBy01 s
-inspects = Inspects.inspects
+inspects = Inspecting.inspects
 
 -- the last scan, which stopped for want of a record, leaves no whole one
 pub scan-empties : (i : Inspecting) → scanOf (length (i .buffer)) (i .buffer) (i .spot .at) (i .spot .used) (i .spot .n) (i .out) .stop ≡ Short → whole (unread (stepped i ScanOn)) ≡ false
-scan-empties = Inspects.scan-empties
+scan-empties = Inspecting.scan-empties
 
 -- a call of `scan` is such a turn, and what a call of `ending` wrote is that ending
 pub scan-steps : (i : Inspecting) (r : Scanned) (after : List ℕ) → ScanPromise (i .buffer) (i .out) (i .spot) r after
     → stepped i ScanOn ≡ record { buffer = i .buffer; ahead = i .ahead; spot = r .spot; out = after; written = i .written }
-scan-steps = Inspects.scan-steps
+scan-steps = Inspecting.scan-steps
 
 pub ending-writes : (n : ℕ) (cut : Bool) (out : List ℕ) (k : ℕ) (after : List ℕ) → EndingPromise n cut out (Written.Bytes k) after → take k after ≡ endingOf n cut
-ending-writes = Inspects.ending-writes
+ending-writes = Inspecting.ending-writes
 
 -- ---- the program's buffers
 
@@ -121,7 +121,7 @@ hex-reads = DigitLaws.hex-reads
 pub example :
     printedBy01 (0x4B ∷ 0x49 ∷ 0x50 ∷ 0x00 ∷ 0x01 ∷ 0x00 ∷ 0x0B ∷ 0x06 ∷ 0x10 ∷ 0x04 ∷ 0x21 ∷ 0x00 ∷ 0x0B ∷ 0x04 ∷ 0x15 ∷ 0x07 ∷ 0x00 ∷ 0x00 ∷ 0x00 ∷ 0x06 ∷ 0x06 ∷ 0x10 ∷ 0x04 ∷ 0x20 ∷ 0x00 ∷ 0x05 ∷ [])
     ≡ 75 ∷ 73 ∷ 80 ∷ 32 ∷ 49 ∷ 10 ∷ 49 ∷ 32 ∷ 48 ∷ 52 ∷ 50 ∷ 49 ∷ 32 ∷ 49 ∷ 49 ∷ 10 ∷ 50 ∷ 32 ∷ 114 ∷ 101 ∷ 102 ∷ 117 ∷ 115 ∷ 101 ∷ 100 ∷ 32 ∷ 50 ∷ 10 ∷ 114 ∷ 101 ∷ 99 ∷ 111 ∷ 114 ∷ 100 ∷ 115 ∷ 32 ∷ 50 ∷ 10 ∷ []
-unfolding recordsOf leftOf digitsOf
+unfolding recordsOf unfinishedOf digitsOf
 example = refl
 
 -- "Another start prints `not KIP 1` only; an unfinished record (a lone length byte too) prints the line `cut`, then the `records` line with the whole ones counted"
@@ -136,7 +136,7 @@ pub record Others : Type 0 where
   pub lone-byte : printedBy01 (0x4B ∷ 0x49 ∷ 0x50 ∷ 0x00 ∷ 0x01 ∷ 0x00 ∷ []) ≡ 75 ∷ 73 ∷ 80 ∷ 32 ∷ 49 ∷ 10 ∷ 99 ∷ 117 ∷ 116 ∷ 10 ∷ 114 ∷ 101 ∷ 99 ∷ 111 ∷ 114 ∷ 100 ∷ 115 ∷ 32 ∷ 48 ∷ 10 ∷ []
 
 pub others : Others
-unfolding recordsOf leftOf digitsOf
+unfolding recordsOf unfinishedOf digitsOf
 others = record { nothing = refl; four-bytes = refl; version-2 = refl; lone-byte = refl }
 
 -- 01's two records and a lone byte
@@ -169,7 +169,7 @@ pub record InTurns : Type 0 where
   pub all-lines : printedBy01 unfinished ≡ headingOf true ++ lineOf 1 (record { number = 0; service = 0x0421; total = 11 }) ++ lineOf 2 (record { number = 2; service = 0; total = 0 }) ++ endingOf 2 true
 
 pub in-turns : InTurns
-unfolding recordsOf leftOf digitsOf scanOf
+unfolding recordsOf unfinishedOf digitsOf scanOf
 in-turns = record {
   no-room = refl;
   first-written = refl;

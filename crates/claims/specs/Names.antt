@@ -4,41 +4,41 @@ use mathlib.Core.Path.{_≡_, refl}
 use mathlib.Core.Bool.{true, false}
 use Rattle.wire.specs.declared.refusals.Refusal.the-variants.{UnsupportedServiceType, InvalidMessageCode}
 use Rattle.constants.specs.Services as Services
-use Rattle.constants.specs.declared.ServiceType.the-variants as S
-use Rattle.constants.specs.declared.ServiceAnswer.the-variants as ServiceAnswer
+use Rattle.constants.specs.declared.services.ServiceType.the-variants as ServiceType
+use Rattle.constants.specs.declared.services.ServiceAnswer.the-variants as ServiceAnswer
 use Rattle.constants.specs.MessageCodes as MessageCodes
-use Rattle.constants.specs.declared.message_code.CEMIMessageCode.the-variants as M
-use Rattle.constants.specs.declared.message_code.CEMIMessageCodeAnswer.the-variants as MessageCodeAnswer
+use Rattle.constants.specs.declared.message_codes.CEMIMessageCode.the-variants as CEMIMessageCode
+use Rattle.constants.specs.declared.message_codes.CEMIMessageCodeAnswer.the-variants as CEMIMessageCodeAnswer
 use Rattle.constants.specs.Priorities as Priorities
-use Rattle.constants.specs.declared.priorities.Priority.the-variants as P
+use Rattle.constants.specs.declared.priorities.Priority.the-variants as Priority
 use Rattle.control.specs.First as First
 use Rattle.control.specs.Second as Second
 use Rattle.control.specs.declared.first.ControlField1.{ControlField1}
 use Rattle.control.specs.declared.second.ControlField2.{ControlField2}
 use Rattle.pci.specs.Transport as Transport
-use Rattle.pci.specs.declared.transport.Tpci.the-variants as T
+use Rattle.pci.specs.declared.transport.Tpci.the-variants as Tpci
 use Rattle.pci.specs.Application as Application
 use Rattle.pci.specs.declared.application.Apci.{Apci}
-use Rattle.pci.specs.declared.application.Apci.the-variants as A
+use Rattle.pci.specs.declared.application.Apci.the-variants as Apci
 use Rattle.ldata.specs.LData as LData
-use Rattle.ldata.specs.declared.fields.LDataFields.{LDataFields}
-use Rattle.ldata.specs.declared.destination.GroupAddressAnswer.the-variants as G
-use Rattle.ldata.specs.declared.destination.IndividualAddressAnswer.the-variants as I
+use Rattle.ldata.specs.declared.ldata.LDataFields.{LDataFields}
+use Rattle.ldata.specs.declared.destination.GroupAddressAnswer.the-variants as GroupAddressAnswer
+use Rattle.ldata.specs.declared.destination.IndividualAddressAnswer.the-variants as IndividualAddressAnswer
 use Rattle.cemi.specs.Cemi as Cemi
-use Rattle.tunnel.specs.declared.Said.the-variants as Said
-use Rattle.tunnel.specs.declared.Wait.the-variants as Wait
+use Rattle.tunnel.specs.declared.rules.Said.the-variants as Said
+use Rattle.tunnel.specs.declared.rules.Wait.the-variants as Wait
 use Rattle.tunnel.specs.Numbers.{saidOf, waitNumber}
 
 -- what `from_u16` answers to each code of 01, and to two that the published crate knows
 pub record ServiceNames : Type 0 where
-  pub connect-request : Services.FromPromise 0x0205 (ServiceAnswer.Service S.ConnectRequest)
-  pub connect-response : Services.FromPromise 0x0206 (ServiceAnswer.Service S.ConnectResponse)
-  pub state-request : Services.FromPromise 0x0207 (ServiceAnswer.Service S.ConnectionstateRequest)
-  pub state-response : Services.FromPromise 0x0208 (ServiceAnswer.Service S.ConnectionstateResponse)
-  pub disconnect-request : Services.FromPromise 0x0209 (ServiceAnswer.Service S.DisconnectRequest)
-  pub disconnect-response : Services.FromPromise 0x020A (ServiceAnswer.Service S.DisconnectResponse)
-  pub tunnelling-request : Services.FromPromise 0x0420 (ServiceAnswer.Service S.TunnellingRequest)
-  pub tunnelling-ack : Services.FromPromise 0x0421 (ServiceAnswer.Service S.TunnellingAck)
+  pub connect-request : Services.FromPromise 0x0205 (ServiceAnswer.Service ServiceType.ConnectRequest)
+  pub connect-response : Services.FromPromise 0x0206 (ServiceAnswer.Service ServiceType.ConnectResponse)
+  pub state-request : Services.FromPromise 0x0207 (ServiceAnswer.Service ServiceType.ConnectionstateRequest)
+  pub state-response : Services.FromPromise 0x0208 (ServiceAnswer.Service ServiceType.ConnectionstateResponse)
+  pub disconnect-request : Services.FromPromise 0x0209 (ServiceAnswer.Service ServiceType.DisconnectRequest)
+  pub disconnect-response : Services.FromPromise 0x020A (ServiceAnswer.Service ServiceType.DisconnectResponse)
+  pub tunnelling-request : Services.FromPromise 0x0420 (ServiceAnswer.Service ServiceType.TunnellingRequest)
+  pub tunnelling-ack : Services.FromPromise 0x0421 (ServiceAnswer.Service ServiceType.TunnellingAck)
   pub search-request : Services.FromPromise 0x0201 (ServiceAnswer.Refused UnsupportedServiceType)
   pub routing-indication : Services.FromPromise 0x0530 (ServiceAnswer.Refused UnsupportedServiceType)
 
@@ -57,20 +57,20 @@ services = record {
 }
 
 pub record MessageCodeNames : Type 0 where
-  pub ldata-req : MessageCodes.FromPromise 0x11 (MessageCodeAnswer.Code M.LDataReq)
-  pub ldata-ind : MessageCodes.FromPromise 0x29 (MessageCodeAnswer.Code M.LDataInd)
-  pub ldata-con : MessageCodes.FromPromise 0x2E (MessageCodeAnswer.Code M.LDataCon)
-  pub lraw-req : MessageCodes.FromPromise 0x10 (MessageCodeAnswer.Code M.LRawReq)
-  pub lraw-ind : MessageCodes.FromPromise 0x2D (MessageCodeAnswer.Code M.LRawInd)
-  pub lraw-con : MessageCodes.FromPromise 0x2F (MessageCodeAnswer.Code M.LRawCon)
-  pub lbusmon-ind : MessageCodes.FromPromise 0x2B (MessageCodeAnswer.Code M.LBusmonInd)
-  pub poll-data-req : MessageCodes.FromPromise 0x13 (MessageCodeAnswer.Refused InvalidMessageCode)
+  pub ldata-req : MessageCodes.FromPromise 0x11 (CEMIMessageCodeAnswer.Code CEMIMessageCode.LDataReq)
+  pub ldata-ind : MessageCodes.FromPromise 0x29 (CEMIMessageCodeAnswer.Code CEMIMessageCode.LDataInd)
+  pub ldata-con : MessageCodes.FromPromise 0x2E (CEMIMessageCodeAnswer.Code CEMIMessageCode.LDataCon)
+  pub lraw-req : MessageCodes.FromPromise 0x10 (CEMIMessageCodeAnswer.Code CEMIMessageCode.LRawReq)
+  pub lraw-ind : MessageCodes.FromPromise 0x2D (CEMIMessageCodeAnswer.Code CEMIMessageCode.LRawInd)
+  pub lraw-con : MessageCodes.FromPromise 0x2F (CEMIMessageCodeAnswer.Code CEMIMessageCode.LRawCon)
+  pub lbusmon-ind : MessageCodes.FromPromise 0x2B (CEMIMessageCodeAnswer.Code CEMIMessageCode.LBusmonInd)
+  pub poll-data-req : MessageCodes.FromPromise 0x13 (CEMIMessageCodeAnswer.Refused InvalidMessageCode)
   -- L_Data is asked of the name
-  pub is-req : Cemi.IsLDataPromise (record { «message_code» = M.LDataReq }) true
-  pub is-ind : Cemi.IsLDataPromise (record { «message_code» = M.LDataInd }) true
-  pub is-con : Cemi.IsLDataPromise (record { «message_code» = M.LDataCon }) true
-  pub is-no-raw : Cemi.IsLDataPromise (record { «message_code» = M.LRawInd }) false
-  pub is-no-busmon : Cemi.IsLDataPromise (record { «message_code» = M.LBusmonInd }) false
+  pub is-req : Cemi.IsLDataPromise (record { «message_code» = CEMIMessageCode.LDataReq }) true
+  pub is-ind : Cemi.IsLDataPromise (record { «message_code» = CEMIMessageCode.LDataInd }) true
+  pub is-con : Cemi.IsLDataPromise (record { «message_code» = CEMIMessageCode.LDataCon }) true
+  pub is-no-raw : Cemi.IsLDataPromise (record { «message_code» = CEMIMessageCode.LRawInd }) false
+  pub is-no-busmon : Cemi.IsLDataPromise (record { «message_code» = CEMIMessageCode.LBusmonInd }) false
 
 pub message-codes : MessageCodeNames
 message-codes = record {
@@ -90,11 +90,11 @@ message-codes = record {
 }
 
 pub record PriorityNames : Type 0 where
-  pub system : Priorities.FromPromise 0 P.System
-  pub normal : Priorities.FromPromise 1 P.Normal
-  pub urgent : Priorities.FromPromise 2 P.Urgent
-  pub low : Priorities.FromPromise 3 P.Low
-  pub four : Priorities.FromPromise 4 P.System
+  pub system : Priorities.FromPromise 0 Priority.System
+  pub normal : Priorities.FromPromise 1 Priority.Normal
+  pub urgent : Priorities.FromPromise 2 Priority.Urgent
+  pub low : Priorities.FromPromise 3 Priority.Low
+  pub four : Priorities.FromPromise 4 Priority.System
 
 pub priorities : PriorityNames
 priorities = record { system = refl; normal = refl; urgent = refl; low = refl; four = refl }
@@ -115,8 +115,8 @@ pub record ControlBits : Type 0 where
   pub not-single : First.DoNotRepeatPromise (first 0xDF) false
   pub broadcast : First.BroadcastPromise (first 0x10) true
   pub not-broadcast : First.BroadcastPromise (first 0xEF) false
-  pub normal : First.PriorityPromise (first 0x04) P.Normal
-  pub urgent : First.PriorityPromise (first 0xFB) P.Urgent
+  pub normal : First.PriorityPromise (first 0x04) Priority.Normal
+  pub urgent : First.PriorityPromise (first 0xFB) Priority.Urgent
   pub acknowledge : First.AckRequestedPromise (first 0x02) true
   pub not-acknowledge : First.AckRequestedPromise (first 0xFD) false
   pub error : First.HasErrorPromise (first 0x01) true
@@ -128,8 +128,8 @@ pub record ControlBits : Type 0 where
   pub not-hops : Second.HopCountPromise (second 0x8F) 0
   pub format : Second.ExtendedFormatPromise (second 0xF4) 4
   -- what `new` makes of its arguments
-  pub new-first : First.NewPromise true false true P.Normal false false (first 0x94)
-  pub new-others : First.NewPromise false true false P.Urgent true true (first 0x2B)
+  pub new-first : First.NewPromise true false true Priority.Normal false false (first 0x94)
+  pub new-others : First.NewPromise false true false Priority.Urgent true true (first 0x2B)
   pub new-second : Second.NewPromise true 6 4 (second 0xE4)
 
 pub control-bits : ControlBits
@@ -160,28 +160,28 @@ control-bits = record {
 
 -- the two bytes of TPCI and APCI
 pub record PciNames : Type 0 where
-  pub unnumbered-data : Transport.FromPromise 0x3F T.UnnumberedData
-  pub numbered-data : Transport.FromPromise 0x57 (T.NumberedData 5)
-  pub unnumbered-control : Transport.FromPromise 0x81 T.UnnumberedControl
-  pub numbered-control : Transport.FromPromise 0xD6 (T.NumberedControl 5)
-  pub group-value-read : Application.FromPromise 0x00 0x3F A.GroupValueRead
-  pub group-value-response : Application.FromPromise 0x00 0x40 A.GroupValueResponse
-  pub group-value-write : Application.FromPromise 0x00 0x80 A.GroupValueWrite
-  pub individual-address-write : Application.FromPromise 0x00 0xC0 A.IndividualAddressWrite
-  pub individual-address-read : Application.FromPromise 0x01 0x00 A.IndividualAddressRead
-  pub individual-address-response : Application.FromPromise 0x01 0x40 A.IndividualAddressResponse
-  pub adc-read : Application.FromPromise 0x01 0x80 A.AdcRead
-  pub adc-response : Application.FromPromise 0x01 0xC0 A.AdcResponse
-  pub memory-read : Application.FromPromise 0x02 0x00 A.MemoryRead
-  pub memory-response : Application.FromPromise 0x02 0x40 A.MemoryResponse
-  pub memory-write : Application.FromPromise 0x02 0x80 A.MemoryWrite
-  pub user-message : Application.FromPromise 0x02 0xC0 (A.Unknown 0x2C0)
-  pub device-descriptor-read : Application.FromPromise 0x03 0x00 A.DeviceDescriptorRead
-  pub device-descriptor-response : Application.FromPromise 0x03 0x40 A.DeviceDescriptorResponse
-  pub restart : Application.FromPromise 0x03 0x80 (A.Unknown 0x380)
-  pub escape : Application.FromPromise 0x03 0xC0 (A.Unknown 0x3C0)
-  pub code-of-write : Application.ToPromise A.GroupValueWrite 0x080
-  pub code-of-memory-write : Application.ToPromise A.MemoryWrite 0x280
+  pub unnumbered-data : Transport.FromPromise 0x3F Tpci.UnnumberedData
+  pub numbered-data : Transport.FromPromise 0x57 (Tpci.NumberedData 5)
+  pub unnumbered-control : Transport.FromPromise 0x81 Tpci.UnnumberedControl
+  pub numbered-control : Transport.FromPromise 0xD6 (Tpci.NumberedControl 5)
+  pub group-value-read : Application.FromPromise 0x00 0x3F Apci.GroupValueRead
+  pub group-value-response : Application.FromPromise 0x00 0x40 Apci.GroupValueResponse
+  pub group-value-write : Application.FromPromise 0x00 0x80 Apci.GroupValueWrite
+  pub individual-address-write : Application.FromPromise 0x00 0xC0 Apci.IndividualAddressWrite
+  pub individual-address-read : Application.FromPromise 0x01 0x00 Apci.IndividualAddressRead
+  pub individual-address-response : Application.FromPromise 0x01 0x40 Apci.IndividualAddressResponse
+  pub adc-read : Application.FromPromise 0x01 0x80 Apci.AdcRead
+  pub adc-response : Application.FromPromise 0x01 0xC0 Apci.AdcResponse
+  pub memory-read : Application.FromPromise 0x02 0x00 Apci.MemoryRead
+  pub memory-response : Application.FromPromise 0x02 0x40 Apci.MemoryResponse
+  pub memory-write : Application.FromPromise 0x02 0x80 Apci.MemoryWrite
+  pub user-message : Application.FromPromise 0x02 0xC0 (Apci.Unknown 0x2C0)
+  pub device-descriptor-read : Application.FromPromise 0x03 0x00 Apci.DeviceDescriptorRead
+  pub device-descriptor-response : Application.FromPromise 0x03 0x40 Apci.DeviceDescriptorResponse
+  pub restart : Application.FromPromise 0x03 0x80 (Apci.Unknown 0x380)
+  pub escape : Application.FromPromise 0x03 0xC0 (Apci.Unknown 0x3C0)
+  pub code-of-write : Application.ToPromise Apci.GroupValueWrite 0x080
+  pub code-of-memory-write : Application.ToPromise Apci.MemoryWrite 0x280
 
 pub pci-names : PciNames
 pci-names = record {
@@ -217,23 +217,23 @@ asking control-2 a = record {
   source = record { 0 = 0x1105 };
   «destination_raw» = 0x0803;
   «npdu_length» = 2;
-  tpci = T.UnnumberedData;
+  tpci = Tpci.UnnumberedData;
   apci = a;
 }
 
 -- what an L_Data record is asked: each of the three services by its name, and whom it is for by bit 7 of control 2
 pub record Asked : Type 0 where
-  pub write : LData.IsServicePromise 0x080 (asking 0xE0 A.GroupValueWrite) true
-  pub write-unknown : LData.IsServicePromise 0x080 (asking 0xE0 (A.Unknown 0x080)) false
-  pub write-response : LData.IsServicePromise 0x080 (asking 0xE0 A.GroupValueResponse) false
-  pub read : LData.IsServicePromise 0x000 (asking 0xE0 A.GroupValueRead) true
-  pub read-unknown : LData.IsServicePromise 0x000 (asking 0xE0 (A.Unknown 0x000)) false
-  pub response : LData.IsServicePromise 0x040 (asking 0xE0 A.GroupValueResponse) true
-  pub response-read : LData.IsServicePromise 0x040 (asking 0xE0 A.GroupValueRead) false
-  pub to-group : LData.DestinationGroupPromise (asking 0x80 A.GroupValueWrite) (G.Address (record { 0 = 0x0803 }))
-  pub to-no-group : LData.DestinationGroupPromise (asking 0x7F A.GroupValueWrite) G.None
-  pub to-device : LData.DestinationIndividualPromise (asking 0x7F A.GroupValueWrite) (I.Address (record { 0 = 0x0803 }))
-  pub to-no-device : LData.DestinationIndividualPromise (asking 0x80 A.GroupValueWrite) I.None
+  pub write : LData.IsServicePromise 0x080 (asking 0xE0 Apci.GroupValueWrite) true
+  pub write-unknown : LData.IsServicePromise 0x080 (asking 0xE0 (Apci.Unknown 0x080)) false
+  pub write-response : LData.IsServicePromise 0x080 (asking 0xE0 Apci.GroupValueResponse) false
+  pub read : LData.IsServicePromise 0x000 (asking 0xE0 Apci.GroupValueRead) true
+  pub read-unknown : LData.IsServicePromise 0x000 (asking 0xE0 (Apci.Unknown 0x000)) false
+  pub response : LData.IsServicePromise 0x040 (asking 0xE0 Apci.GroupValueResponse) true
+  pub response-read : LData.IsServicePromise 0x040 (asking 0xE0 Apci.GroupValueRead) false
+  pub to-group : LData.DestinationGroupPromise (asking 0x80 Apci.GroupValueWrite) (GroupAddressAnswer.Address (record { 0 = 0x0803 }))
+  pub to-no-group : LData.DestinationGroupPromise (asking 0x7F Apci.GroupValueWrite) GroupAddressAnswer.None
+  pub to-device : LData.DestinationIndividualPromise (asking 0x7F Apci.GroupValueWrite) (IndividualAddressAnswer.Address (record { 0 = 0x0803 }))
+  pub to-no-device : LData.DestinationIndividualPromise (asking 0x80 Apci.GroupValueWrite) IndividualAddressAnswer.None
 
 pub asked : Asked
 asked = record {

@@ -4,44 +4,44 @@ use mathlib.Core.Path.{_≡_, refl}
 use mathlib.Core.List.{List, [], _∷_, _++_}
 use lib.ListN.{replicate}
 use Rattle.wire.specs.Told.{Told, done, viewed}
-use Rattle.wire.specs.Written.{tells}
+use Rattle.wire.specs.Writing.{tells}
 use Rattle.wire.specs.declared.refusals.Refusal.the-variants.{InvalidMessageCode}
-use Rattle.constants.specs.declared.ServiceType.the-variants.{TunnellingAck}
-use Rattle.constants.specs.declared.message_code.CEMIMessageCode.{CEMIMessageCode}
-use Rattle.constants.specs.declared.message_code.CEMIMessageCode.the-variants.{LDataInd, LRawInd}
+use Rattle.constants.specs.declared.services.ServiceType.the-variants.{TunnellingAck}
+use Rattle.constants.specs.declared.message_codes.CEMIMessageCode.{CEMIMessageCode}
+use Rattle.constants.specs.declared.message_codes.CEMIMessageCode.the-variants.{LDataInd, LRawInd}
 use Rattle.pci.specs.declared.transport.Tpci.{Tpci}
 use Rattle.pci.specs.declared.transport.Tpci.the-variants.{UnnumberedData, NumberedData, UnnumberedControl}
 use Rattle.ldata.specs.Count.{crateCount}
 use Rattle.ldata.specs.LData as LData
 use Rattle.ldata.specs.Builder as LDataBuilder
 use Rattle.pci.specs.declared.application.Apci.the-variants.{GroupValueWrite}
-use Rattle.views.specs.LData as LDataView
+use Rattle.borrowed.specs.LDataFrame as LDataFrame
 use Rattle.cemi.specs.Cemi as Cemi
-use Rattle.cemi.specs.declared.InfoLengthAnswer.the-variants as I
+use Rattle.cemi.specs.declared.InfoLengthAnswer.the-variants as InfoLengthAnswer
 use Rattle.header.specs.Header as Header
 use Rattle.hpai.specs.Hpai as Hpai
 use Rattle.connect.specs.Cri as Cri
-use Rattle.connect.specs.Request as ConnectReq
-use Rattle.connect.specs.Response as ConnectRes
+use Rattle.connect.specs.Request as ConnectRequest
+use Rattle.connect.specs.Response as ConnectResponse
 use Rattle.connect.specs.Channel as Channel
 use Rattle.tunnelling.specs.Connection as Connection
-use Rattle.tunnelling.specs.Request as TunnelReq
-use Rattle.tunnelling.specs.Ack as Ack
+use Rattle.tunnelling.specs.Request as TunnelingRequest
+use Rattle.tunnelling.specs.Ack as TunnelingAck
 use Rattle.frame.specs.Frame as Frame
-use Rattle.frame.specs.Builder as Builder
+use Rattle.frame.specs.Builder as FrameBuilder
 use Rattle.frame.specs.RoundTrip.{built}
 
 abbrev built01 : ℕ → ℕ → ℕ
-built01 n m = tells (Builder.checks n m) (replicate n 0) .number
+built01 n m = tells (FrameBuilder.checks n m) (replicate n 0) .number
 
 -- an acknowledgement's eleven bytes with three more behind them
 abbrev trailed : List ℕ
 trailed = 0x06 ∷ 0x10 ∷ 0x04 ∷ 0x21 ∷ 0x00 ∷ 0x0B ∷ 0x04 ∷ 0x15 ∷ 0x07 ∷ 0x00 ∷ 0x00 ∷ 0xAA ∷ 0xBB ∷ 0xCC ∷ []
 
--- where the data stands in what a record that no parse made holds
-abbrev heldAs : Tpci → ℕ → List ℕ → Told
-heldAs t l s =
-    LDataView.heldBy01 (record {
+-- where the data stands in what a record that no parse made borrows
+abbrev borrowedAs : Tpci → ℕ → List ℕ → Told
+borrowedAs t l s =
+    LDataFrame.borrowedBy01 (record {
       ctrl1 = record { raw = 0x94 };
       ctrl2 = record { raw = 0xE0 };
       source = record { 0 = 0x1105 };
@@ -95,25 +95,25 @@ pub record Order : Type 0 where
   pub cri-length : Cri.decodeBy01 (0x05 ∷ 0x04 ∷ 0x02 ∷ 0x00 ∷ []) .number ≡ 2
   pub connection-length : Connection.decodeBy01 (0x05 ∷ 0x15 ∷ 0x07 ∷ 0x00 ∷ []) ≡ done (0x15 ∷ 0x07 ∷ [])
   -- a connect response needs 14 bytes whatever its status, and then its endpoint's length byte
-  pub refused-connection : ConnectRes.parseBy01 (0x00 ∷ 0x24 ∷ []) .number ≡ 1
-  pub short-before-endpoint : ConnectRes.parseBy01 (replicate 13 0) .number ≡ 1
-  pub endpoint-length : ConnectRes.parseBy01 (replicate 14 0) .number ≡ 2
+  pub refused-connection : ConnectResponse.parseBy01 (0x00 ∷ 0x24 ∷ []) .number ≡ 1
+  pub short-before-endpoint : ConnectResponse.parseBy01 (replicate 13 0) .number ≡ 1
+  pub endpoint-length : ConnectResponse.parseBy01 (replicate 14 0) .number ≡ 2
   -- the sizes: 26, 16, 16, 11 bytes, and one less is 1
-  pub connect-25 : tells (ConnectReq.buildChecks 25) [] .number ≡ 1
-  pub connect-26 : tells (ConnectReq.buildChecks 26) [] .number ≡ 0
+  pub connect-25 : tells (ConnectRequest.buildChecks 25) [] .number ≡ 1
+  pub connect-26 : tells (ConnectRequest.buildChecks 26) [] .number ≡ 0
   pub request-15 : tells (Channel.requestChecks 15) [] .number ≡ 1
   pub request-16 : tells (Channel.requestChecks 16) [] .number ≡ 0
-  pub ack-10 : tells (Ack.buildChecks 10) [] .number ≡ 1
-  pub ack-11 : tells (Ack.buildChecks 11) [] .number ≡ 0
+  pub ack-10 : tells (TunnelingAck.buildChecks 10) [] .number ≡ 1
+  pub ack-11 : tells (TunnelingAck.buildChecks 11) [] .number ≡ 0
   -- a tunnelling request: the buffer's 1 before the cEMI's 5
-  pub room-before-large : tells (TunnelReq.buildChecks 65526 65535) [] .number ≡ 1
-  pub large-alone : tells (TunnelReq.buildChecks 65526 65536) [] .number ≡ 5
-  pub largest : tells (TunnelReq.buildChecks 65525 65535) [] .number ≡ 0
+  pub room-before-large : tells (TunnelingRequest.buildChecks 65526 65535) [] .number ≡ 1
+  pub large-alone : tells (TunnelingRequest.buildChecks 65526 65536) [] .number ≡ 5
+  pub largest : tells (TunnelingRequest.buildChecks 65525 65535) [] .number ≡ 0
   -- responses of 2, 4 and 5 bytes, and one less is 1
   pub status-1 : Channel.statusBy01 (0x15 ∷ []) .number ≡ 1
   pub request-body-3 : Connection.decodeBy01 (0x04 ∷ 0x15 ∷ 0x07 ∷ []) .number ≡ 1
-  pub ack-body-4 : Ack.parseBy01 (0x04 ∷ 0x15 ∷ 0x07 ∷ 0x00 ∷ []) .number ≡ 1
-  pub ack-body-5 : Ack.parseBy01 (0x04 ∷ 0x15 ∷ 0x07 ∷ 0x00 ∷ 0x2A ∷ []) ≡ done (0x15 ∷ 0x07 ∷ 0x2A ∷ [])
+  pub ack-body-4 : TunnelingAck.parseBy01 (0x04 ∷ 0x15 ∷ 0x07 ∷ 0x00 ∷ []) .number ≡ 1
+  pub ack-body-5 : TunnelingAck.parseBy01 (0x04 ∷ 0x15 ∷ 0x07 ∷ 0x00 ∷ 0x2A ∷ []) ≡ done (0x15 ∷ 0x07 ∷ 0x2A ∷ [])
   -- cEMI: 1 before 6; `as_ldata`: 6 before 2, then L_Data's 1; the record's code decides, the slice's must be known
   pub cemi-short-before-code : Cemi.parseBy01 (0xFF ∷ []) .number ≡ 1
   pub cemi-code : Cemi.parseBy01 (0x13 ∷ 0x00 ∷ []) .number ≡ 6
@@ -122,8 +122,8 @@ pub record Order : Type 0 where
   pub info-before-ldata : inCemi LDataInd (0x29 ∷ 0x00 ∷ replicate 8 0) ≡ 1
   pub record-decides : inCemi LRawInd (0x29 ∷ 0x00 ∷ nineBytes 2 0x00) ≡ 6
   pub slice-first : inCemi LRawInd (0x13 ∷ []) ≡ 1
-  pub info-length-code : Cemi.InfoLengthPromise (0x13 ∷ 0x05 ∷ []) (I.Refused InvalidMessageCode)
-  pub info-length-known : Cemi.InfoLengthPromise (0x2D ∷ 0x05 ∷ []) (I.Length 5)
+  pub info-length-code : Cemi.InfoLengthPromise (0x13 ∷ 0x05 ∷ []) (InfoLengthAnswer.Refused InvalidMessageCode)
+  pub info-length-known : Cemi.InfoLengthPromise (0x2D ∷ 0x05 ∷ []) (InfoLengthAnswer.Length 5)
   -- L_Data: nine bytes for control packets too; data needs L of 2, control packets of 1
   pub control-of-8 : asLData (0x94 ∷ 0xE0 ∷ 0x11 ∷ 0x05 ∷ 0x08 ∷ 0x03 ∷ 0x00 ∷ 0x80 ∷ []) ≡ 1
   pub data-L0 : asLData (nineBytes 0 0x00) ≡ 2
@@ -133,12 +133,12 @@ pub record Order : Type 0 where
   pub control-L1 : asLData (nineBytes 1 0x80) ≡ 0
   pub L255-262 : asLData (nineBytes 255 0x00 ++ replicate 253 0) ≡ 0
   pub L255-261 : asLData (nineBytes 255 0x00 ++ replicate 252 0) ≡ 2
-  -- a record that holds its data: up to the end that L says, and 2 where that is not held, or lies before the start
-  pub held-all : heldAs UnnumberedData 3 (0x2A ∷ []) ≡ viewed 0 1
-  pub held-more : heldAs UnnumberedData 3 (0x2A ∷ 0x2B ∷ []) ≡ viewed 0 1
-  pub held-less : heldAs UnnumberedData 4 (0x2A ∷ []) .number ≡ 2
-  pub held-L1 : heldAs UnnumberedData 1 (0x2A ∷ []) .number ≡ 2
-  pub held-control-L1 : heldAs UnnumberedControl 1 [] ≡ viewed 0 0
+  -- a record that borrows its data: up to the end that L says, and 2 where that is past what it borrows, or lies before the start
+  pub borrowed-all : borrowedAs UnnumberedData 3 (0x2A ∷ []) ≡ viewed 0 1
+  pub borrowed-more : borrowedAs UnnumberedData 3 (0x2A ∷ 0x2B ∷ []) ≡ viewed 0 1
+  pub borrowed-less : borrowedAs UnnumberedData 4 (0x2A ∷ []) .number ≡ 2
+  pub borrowed-L1 : borrowedAs UnnumberedData 1 (0x2A ∷ []) .number ≡ 2
+  pub borrowed-control-L1 : borrowedAs UnnumberedControl 1 [] ≡ viewed 0 0
   -- the L_Data builder: 13 four times, then 5, then 1
   pub control-13 : builtLData UnnumberedControl 0x080 0 254 0 ≡ 13
   pub sequence-16 : builtLData (NumberedData 16) 0x080 0 254 0 ≡ 13
@@ -196,11 +196,11 @@ orders = record {
   control-L1 = refl;
   L255-262 = refl;
   L255-261 = refl;
-  held-all = refl;
-  held-more = refl;
-  held-less = refl;
-  held-L1 = refl;
-  held-control-L1 = refl;
+  borrowed-all = refl;
+  borrowed-more = refl;
+  borrowed-less = refl;
+  borrowed-L1 = refl;
+  borrowed-control-L1 = refl;
   control-13 = refl;
   sequence-16 = refl;
   code-above = refl;

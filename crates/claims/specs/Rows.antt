@@ -7,27 +7,27 @@ use lib.ListN.{getD}
 use Rattle.wire.specs.Told.{Told, viewed}
 use Rattle.wire.specs.Parts.{shown}
 use Rattle.wire.specs.declared.refusals.Refusal.the-variants.{BufferTooSmall}
-use Rattle.constants.specs.declared.ServiceType.the-variants.{TunnellingRequest}
+use Rattle.constants.specs.declared.services.ServiceType.the-variants.{TunnellingRequest}
 use Rattle.pci.specs.Application.{apciOf, codeIn, SixBitPromise}
 use Rattle.pci.specs.declared.transport.Tpci.the-variants.{UnnumberedData}
 use Rattle.pci.specs.declared.application.Apci.the-variants.{GroupValueWrite, Unknown}
 use Rattle.ldata.specs.Count.{crateCount}
 use Rattle.ldata.specs.LData as LData
-use Rattle.ldata.specs.declared.fields.LDataFields.{LDataFields}
-use Rattle.ldata.specs.declared.fields.LDataAnswer.the-variants as L
+use Rattle.ldata.specs.declared.ldata.LDataFields.{LDataFields}
+use Rattle.ldata.specs.declared.ldata.LDataAnswer.the-variants as LDataAnswer
 use Rattle.header.specs.Header as Header
 use Rattle.frame.specs.Frame as Frame
 use Rattle.frame.specs.RoundTrip.{built}
-use Rattle.frame.specs.declared.fields.FrameAnswer.the-variants.{Frame}
-use Rattle.tunnel.specs.declared.Wait.{Wait}
-use Rattle.tunnel.specs.declared.Said.the-variants.{Deliver}
+use Rattle.frame.specs.declared.frame.FrameAnswer.the-variants.{Frame}
+use Rattle.tunnel.specs.declared.rules.Wait.{Wait}
+use Rattle.tunnel.specs.declared.rules.Said.the-variants.{Deliver}
 use Rattle.tunnel_model.specs.Store.{step}
 use Rattle.tunnel.specs.Numbers.{saidOf}
 use Rattle.tunnel_model.specs.Calls.{Datagram, refuses}
 use Rattle.tunnel_model.specs.Lone.{lone}
 use Rattle.tunnel_model.specs.Table.{chan, storeOf}
-use Rattle.table.specs.Places.{kind}
-use Rattle.table.specs.declared.places.Place.{Place}
+use Rattle.tunnel_table.specs.Places.{kind}
+use Rattle.tunnel_table.specs.declared.places.Place.{Place}
 use Rattle.claims.specs.Examples.{request, room}
 
 abbrev asFrame : List ℕ → ℕ
@@ -77,11 +77,11 @@ pub record P : Type 0 where
   pub bare-frame : Frame.parseBy01 bare ≡ Frame.told (Frame (built TunnellingRequest []))
   pub bare-body : Frame.bodyBy01 (built TunnellingRequest []) bare ≡ viewed 6 6
   pub bare-datagram : (l : List Place) (out : List ℕ) → step chan (storeOf kind) l (Datagram bare out) ≡ (refuses BufferTooSmall out, l)
-  pub write-2A : asLData (ldata 3 (0x00 ∷ 0x80 ∷ 0x2A ∷ [])) ≡ LData.told (L.Frame (groupWrite 3))
+  pub write-2A : asLData (ldata 3 (0x00 ∷ 0x80 ∷ 0x2A ∷ [])) ≡ LData.told (LDataAnswer.Frame (groupWrite 3))
   pub write-2A-data : dataIn (groupWrite 3) (ldata 3 (0x00 ∷ 0x80 ∷ 0x2A ∷ [])) ≡ 0x2A ∷ []
   pub write-L4 : asLData (ldata 4 (0x00 ∷ 0x80 ∷ 0x2A ∷ [])) .number ≡ 2
   pub write-L1 : asLData (ldata 1 (0x00 ∷ 0x81 ∷ [])) .number ≡ 2
-  pub write-L2 : asLData (ldata 2 (0x00 ∷ 0x81 ∷ [])) ≡ LData.told (L.Frame (groupWrite 2))
+  pub write-L2 : asLData (ldata 2 (0x00 ∷ 0x81 ∷ [])) ≡ LData.told (LDataAnswer.Frame (groupWrite 2))
   pub write-L2-data : dataIn (groupWrite 2) (ldata 2 (0x00 ∷ 0x81 ∷ [])) ≡ []
   pub write-L2-six : SixBitPromise (getD (ldata 2 (0x00 ∷ 0x81 ∷ [])) 8 0) 1
   pub apci-02-C0 : apciOf (codeIn 0x02 0xC0) ≡ Unknown 0x2C0

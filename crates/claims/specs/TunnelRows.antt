@@ -7,18 +7,18 @@ use mathlib.Core.Option.{some}
 use lib.ListN.{replicate}
 use Rattle.wire.specs.Told.{done}
 use Rattle.wire.specs.declared.refusals.Refusal.the-variants.{BufferTooSmall, NotOpen, AwaitsAck, AwaitsNothing}
-use Rattle.tunnel.specs.declared.Wait.{Wait}
-use Rattle.tunnel.specs.declared.Wait.the-variants.{Idle, First, Second}
-use Rattle.tunnel.specs.declared.Said.the-variants.{Repeat, GiveUp, Duplicate, OutOfOrder, Sent, Ignored}
+use Rattle.tunnel.specs.declared.rules.Wait.{Wait}
+use Rattle.tunnel.specs.declared.rules.Wait.the-variants.{Idle, First, Second}
+use Rattle.tunnel.specs.declared.rules.Said.the-variants.{Repeat, GiveUp, Duplicate, OutOfOrder, Sent, Ignored}
 use Rattle.tunnel_model.specs.Firsts.{isNone}
 use Rattle.tunnel_model.specs.Store.{step}
 use Rattle.tunnel.specs.Numbers.{saidOf}
 use Rattle.tunnel_model.specs.Calls.{Call, Open, Close, Timeout, Send, Datagram, Outcome, refuses, says}
 use Rattle.tunnel_model.specs.Lone.{lone}
 use Rattle.tunnel_model.specs.Table.{chan, storeOf, emptyOf}
-use Rattle.table.specs.Places.{kind}
-use Rattle.table.specs.declared.places.Hold.the-variants.{Free, Held}
-use Rattle.table.specs.declared.places.Place.{Place}
+use Rattle.tunnel_table.specs.Places.{kind}
+use Rattle.tunnel_table.specs.declared.places.Hold.the-variants.{Free, Held}
+use Rattle.tunnel_table.specs.declared.places.Place.{Place}
 use Rattle.claims.specs.Examples.{request, ack, room}
 
 -- what a call on a table gives, and its number alone

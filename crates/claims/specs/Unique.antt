@@ -2,12 +2,12 @@
 use Prim.Native.Nat.{ℕ}
 use mathlib.Core.Path.{_≡_}
 use mathlib.Core.List.{List, _++_}
-use Rattle.wire.specs.Numbers.{NumberPromise}
+use Rattle.wire.specs.Refusals.{NumberPromise}
 use Rattle.wire.specs.Layout.{WordPromise, HighPromise, LowPromise, ByteAtPromise, WordAtPromise, CopyPromise}
-use Rattle.wire.specs.Written.{WritePromise}
+use Rattle.wire.specs.Writing.{WritePromise}
 use Rattle.wire.specs.Parts.{RefusedPromise, PartPromise}
 use Rattle.wire.specs.ToldLaws.{same}
-use Rattle.wire.specs.WrittenLaws.{write-one}
+use Rattle.wire.specs.WritingLaws.{write-one}
 use Rattle.wire.specs.PartLaws as PartLaws
 use Rattle.constants.specs.Services as Services
 use Rattle.constants.specs.ServiceLaws as ServiceLaws
@@ -36,11 +36,12 @@ use Rattle.header.specs.Header as Header
 use Rattle.header.specs.HeaderLaws as HeaderLaws
 use Rattle.frame.specs.Frame as Frame
 use Rattle.frame.specs.FrameLaws as FrameLaws
-use Rattle.frame.specs.Builder as Builder
+use Rattle.frame.specs.Builder as FrameBuilder
+use Rattle.frame.specs.Write as Write
 use Rattle.hpai.specs.Hpai as Hpai
 use Rattle.hpai.specs.HpaiLaws as HpaiLaws
-use Rattle.frame.specs.BuilderLaws as BuilderLaws
-use Rattle.constants.specs.declared.ServiceType.the-variants as S
+use Rattle.frame.specs.WriteLaws as WriteLaws
+use Rattle.constants.specs.declared.services.ServiceType.the-variants as ServiceType
 use Rattle.connect.specs.Cri as Cri
 use Rattle.connect.specs.CriLaws as CriLaws
 use Rattle.connect.specs.Request as ConnectRequest
@@ -52,60 +53,60 @@ use Rattle.connect.specs.ChannelLaws as ChannelLaws
 use Rattle.connect.specs.declared.cri.ConnectionRequestInfo.{ConnectionRequestInfo}
 use Rattle.tunnelling.specs.Connection as Connection
 use Rattle.tunnelling.specs.ConnectionLaws as ConnectionLaws
-use Rattle.tunnelling.specs.Request as TunnelRequest
-use Rattle.tunnelling.specs.RequestLaws as TunnelRequestLaws
-use Rattle.tunnelling.specs.Ack as Ack
-use Rattle.tunnelling.specs.AckLaws as AckLaws
+use Rattle.tunnelling.specs.Request as TunnelingRequest
+use Rattle.tunnelling.specs.RequestLaws as TunnelingRequestLaws
+use Rattle.tunnelling.specs.Ack as TunnelingAck
+use Rattle.tunnelling.specs.AckLaws as TunnelingAckLaws
 use denote.Ref.{now}
-use Rattle.kip_inspect.specs.Scan as Scan
-use Rattle.kip_inspect.specs.ScanLaws as ScanLaws
-use Rattle.kip_inspect.specs.declared.scanning.Spot.{Spot}
-use Rattle.kip_inspect.specs.declared.scanning.Scanned.{Scanned}
-use Rattle.kip_inspect.specs.Turns as Turns
-use Rattle.kip_inspect.specs.declared.turns.Progress.{Progress}
-use Rattle.inspect_io.specs.Run as Run
-use Rattle.views.specs.KnxnetIp as KnxnetIp
-use Rattle.views.specs.KnxnetIpLaws as KnxnetIpLaws
-use Rattle.views.specs.LData as LDataView
-use Rattle.views.specs.LDataLaws as LDataViewLaws
-use Rattle.views.specs.declared.knxnet_ip.KnxnetIpFrame.{KnxnetIpFrame}
-use Rattle.views.specs.declared.l_data.LDataFrame.{LDataFrame}
-use Rattle.datagram.specs.Heard as Heard
-use Rattle.datagram.specs.HeardLaws as HeardLaws
-use Rattle.tunnel.specs.Numbers as TunnelNumbers
+use Rattle.inspection.specs.Scanning as Scanning
+use Rattle.inspection.specs.ScanningLaws as ScanningLaws
+use Rattle.inspection.specs.declared.scanning.Spot.{Spot}
+use Rattle.inspection.specs.declared.scanning.Scanned.{Scanned}
+use Rattle.inspection.specs.Turns as Turns
+use Rattle.inspection.specs.declared.turns.Progress.{Progress}
+use Rattle.inspect_io.specs.Running as Running
+use Rattle.borrowed.specs.KnxnetIpFrame as KnxnetIpFrame
+use Rattle.borrowed.specs.KnxnetIpFrameLaws as KnxnetIpFrameLaws
+use Rattle.borrowed.specs.LDataFrame as LDataFrame
+use Rattle.borrowed.specs.LDataFrameLaws as LDataFrameLaws
+use Rattle.borrowed.specs.declared.knxnet_ip_frame.KnxnetIpFrame.{KnxnetIpFrame}
+use Rattle.borrowed.specs.declared.ldata_frame.LDataFrame.{LDataFrame}
+use Rattle.tunnel_datagram.specs.Hearing as Hearing
+use Rattle.tunnel_datagram.specs.HearingLaws as HearingLaws
+use Rattle.tunnel.specs.Numbers as Numbers
 use Rattle.tunnel.specs.Rules as Rules
-use Rattle.tunnel.specs.declared.Tunnel.{Tunnel}
+use Rattle.tunnel.specs.declared.rules.Tunnel.{Tunnel}
 use Rattle.tunnel_model.specs.Calls.{Call, Open, Close, Timeout, Send, Datagram}
 use Rattle.digits.specs.Digits as Digits
 use Rattle.kip.specs.Capture as Capture
-use Rattle.frame.specs.Judge as Judge
-use Rattle.frame.specs.JudgeLaws as JudgeLaws
-use Rattle.kip_inspect.specs.Line as Line
-use Rattle.kip_inspect.specs.LineLaws as LineLaws
+use Rattle.frame.specs.Judging as Judging
+use Rattle.frame.specs.JudgingLaws as JudgingLaws
+use Rattle.inspection.specs.Lines as InspectionLines
+use Rattle.inspection.specs.LinesLaws as InspectionLinesLaws
 use Rattle.variants.specs.Variants as Variants
 use Rattle.replay.specs.Telling as Telling
-use Rattle.replay.specs.Line as CallLine
-use Rattle.replay.specs.Laws as CallLaws
+use Rattle.replay.specs.Lines as ReplayLines
+use Rattle.replay.specs.Laws as ReplayLaws
 use Rattle.replay.specs.Records as Records
 use Rattle.replay.specs.declared.records.Record.{Record}
 use Rattle.replay.specs.declared.telling.Told.{Told}
-use Rattle.datagram.specs.declared.Heard.{Heard}
-use Rattle.table.specs.Table.{EmptyPromise, CallPromise, heardOn, HeardPromise}
-use Rattle.table.specs.Compiled as Compiled
-use Rattle.table.specs.declared.calls.Table.{Table}
-use Rattle.table.specs.declared.calls.Called.{Called}
-use Rattle.image.specs.Image as Image
-use Rattle.image.specs.ImageLaws as ImageLaws
-use Rattle.host.specs.Reading as Reading
-use Rattle.host.specs.ReadingLaws as ReadingLaws
-use Rattle.host.specs.CemiLData as CemiLData
-use Rattle.host.specs.CemiLDataLaws as CemiLDataLaws
-use Rattle.host.specs.Building as Building
-use Rattle.host.specs.BuildingLaws as BuildingLaws
-use Rattle.host.specs.Called as HostCalled
-use Rattle.host.specs.CalledLaws as CalledLaws
-use Rattle.host.specs.declared.building.KnxWritten.{KnxWritten}
-use Rattle.host.specs.declared.called.KnxCalled.{KnxCalled}
+use Rattle.tunnel_datagram.specs.declared.hearing.Heard.{Heard}
+use Rattle.tunnel_table.specs.Table.{EmptyPromise, CallPromise, heardOn, HeardPromise}
+use Rattle.tunnel_table.specs.Compiled as Compiled
+use Rattle.tunnel_table.specs.declared.table.Table.{Table}
+use Rattle.tunnel_table.specs.declared.table.Called.{Called}
+use Rattle.tunnel_image.specs.Image as Image
+use Rattle.tunnel_image.specs.ImageLaws as ImageLaws
+use Rattle.knx.specs.Reading as KnxReading
+use Rattle.knx.specs.ReadingLaws as KnxReadingLaws
+use Rattle.knx.specs.CemiLData as CemiLData
+use Rattle.knx.specs.CemiLDataLaws as CemiLDataLaws
+use Rattle.knx.specs.Building as Building
+use Rattle.knx.specs.BuildingLaws as BuildingLaws
+use Rattle.knx.specs.Called as Called
+use Rattle.knx.specs.CalledLaws as CalledLaws
+use Rattle.knx.specs.declared.building.KnxWritten.{KnxWritten}
+use Rattle.knx.specs.declared.called.KnxCalled.{KnxCalled}
 
 -- a promise over one, two or three inputs
 abbrev pub One : {A R : Type 0} → (A → R → Type 0) → Type 0
@@ -465,32 +466,32 @@ pub frame-data-part : One₂ Frame.DataPartPromise
 frame-data-part f s r q = same
 
 -- frame::FrameBuilder::new
-pub builder-new : One Builder.NewPromise
+pub builder-new : One FrameBuilder.NewPromise
 builder-new s r q = same
 
 -- frame::judge
-pub frame-judge : One Judge.JudgePromise
-frame-judge = JudgeLaws.judge-one
+pub frame-judge : One Judging.JudgePromise
+frame-judge = JudgingLaws.judge-one
 
 -- frame::FrameBuilder::build
-pub builder-build : Lent₂ Builder.BuildPromise
+pub builder-build : Lent₂ FrameBuilder.BuildPromise
 builder-build = FrameLaws.build-one
 
 -- frame::FrameBuilder::size
-pub builder-size : One Builder.SizePromise
+pub builder-size : One FrameBuilder.SizePromise
 builder-size body r q = same
 
 -- frame::write_frame
-pub frame-write : Lent₂ Builder.WriteFramePromise
-frame-write = BuilderLaws.write-one
+pub frame-write : Lent₂ Write.WriteFramePromise
+frame-write = WriteLaws.write-one
 
 -- frame::write_frame2
-pub frame-write2 : Lent₃ Builder.WriteFrame2Promise
-frame-write2 s a b = BuilderLaws.write-one s (a ++ b)
+pub frame-write2 : Lent₃ Write.WriteFrame2Promise
+frame-write2 s a b = WriteLaws.write-one s (a ++ b)
 
 -- frame::write_frame3
-pub frame-write3 : Lent₄ Builder.WriteFrame3Promise
-frame-write3 s a b c = BuilderLaws.write-one s (a ++ b ++ c)
+pub frame-write3 : Lent₄ Write.WriteFrame3Promise
+frame-write3 s a b c = WriteLaws.write-one s (a ++ b ++ c)
 
 -- ---- hpai
 
@@ -546,7 +547,7 @@ state-request-new channel h r q = same
 
 -- connect::ConnectionStateRequest::build
 pub state-request-build : Lent Channel.StateBuildPromise
-state-request-build q = ChannelLaws.request-one S.ConnectionstateRequest (q .«channel_id») (q .«control_endpoint»)
+state-request-build q = ChannelLaws.request-one ServiceType.ConnectionstateRequest (q .«channel_id») (q .«control_endpoint»)
 
 -- connect::ConnectionStateResponse::parse
 pub state-response-parse : One Channel.StateParsePromise
@@ -562,7 +563,7 @@ disconnect-request-new channel h r q = same
 
 -- connect::DisconnectRequest::build
 pub disconnect-request-build : Lent Channel.DisconnectBuildPromise
-disconnect-request-build q = ChannelLaws.request-one S.DisconnectRequest (q .«channel_id») (q .«control_endpoint»)
+disconnect-request-build q = ChannelLaws.request-one ServiceType.DisconnectRequest (q .«channel_id») (q .«control_endpoint»)
 
 -- connect::DisconnectResponse::parse
 pub disconnect-response-parse : One Channel.DisconnectParsePromise
@@ -587,59 +588,59 @@ pub connection-header-decode : One Connection.DecodePromise
 connection-header-decode = ConnectionLaws.decode-one
 
 -- tunnelling::TunnelingRequest::new
-pub tunnel-request-new : One TunnelRequest.NewPromise
+pub tunnel-request-new : One TunnelingRequest.NewPromise
 tunnel-request-new h r q = same
 
 -- tunnelling::TunnelingRequest::build
-pub tunnel-request-build : Lent₂ TunnelRequest.BuildPromise
-tunnel-request-build = TunnelRequestLaws.build-one
+pub tunnel-request-build : Lent₂ TunnelingRequest.BuildPromise
+tunnel-request-build = TunnelingRequestLaws.build-one
 
 -- tunnelling::TunnelingRequest::parse
-pub tunnel-request-parse : One TunnelRequest.ParsePromise
-tunnel-request-parse = TunnelRequestLaws.parse-one
+pub tunnel-request-parse : One TunnelingRequest.ParsePromise
+tunnel-request-parse = TunnelingRequestLaws.parse-one
 
 -- tunnelling::TunnelingRequest::cemi_data
-pub tunnel-request-cemi-data : One TunnelRequest.CemiDataPromise
-tunnel-request-cemi-data = TunnelRequestLaws.cemi-data-one
+pub tunnel-request-cemi-data : One TunnelingRequest.CemiDataPromise
+tunnel-request-cemi-data = TunnelingRequestLaws.cemi-data-one
 
 -- tunnelling::TunnelingRequest::cemi_part
-pub tunnel-request-cemi-part : One TunnelRequest.CemiPartPromise
+pub tunnel-request-cemi-part : One TunnelingRequest.CemiPartPromise
 tunnel-request-cemi-part s r q = same
 
 -- tunnelling::TunnelingAck::new
-pub ack-new : One₂ Ack.NewPromise
+pub ack-new : One₂ TunnelingAck.NewPromise
 ack-new h status r q = same
 
 -- tunnelling::TunnelingAck::build
-pub ack-build : Lent Ack.BuildPromise
-ack-build = AckLaws.build-one
+pub ack-build : Lent TunnelingAck.BuildPromise
+ack-build = TunnelingAckLaws.build-one
 
 -- tunnelling::TunnelingAck::parse
-pub ack-parse : One Ack.ParsePromise
-ack-parse = AckLaws.parse-one
+pub ack-parse : One TunnelingAck.ParsePromise
+ack-parse = TunnelingAckLaws.parse-one
 
 -- tunnelling::TunnelingAck::is_ok
-pub ack-is-ok : One Ack.IsOkPromise
+pub ack-is-ok : One TunnelingAck.IsOkPromise
 ack-is-ok a r q = same
 
 -- ---- datagram
 
--- datagram::hear
-pub datagram-hear : One Heard.HearPromise
-datagram-hear = HeardLaws.hear-one
+-- tunnel_datagram::hear
+pub datagram-hear : One Hearing.HearPromise
+datagram-hear = HearingLaws.hear-one
 
 -- ---- tunnel
 
 -- tunnel::Said::number
-pub said-number : One TunnelNumbers.SaidNumberPromise
+pub said-number : One Numbers.SaidNumberPromise
 said-number a r q = same
 
 -- tunnel::Wait::number
-pub wait-number : One TunnelNumbers.WaitNumberPromise
+pub wait-number : One Numbers.WaitNumberPromise
 wait-number w r q = same
 
 -- tunnel::Wait::from_u8
-pub wait-from-u8 : One TunnelNumbers.WaitFromPromise
+pub wait-from-u8 : One Numbers.WaitFromPromise
 wait-from-u8 n r q = same
 
 -- tunnel::Tunnel::fresh
@@ -672,34 +673,34 @@ tunnel-acknowledged t n status r q = same
 
 -- ---- table: the output afterwards is settled with the answer, and the table afterwards is part of it
 
--- table::Table::empty
+-- tunnel_table::Table::empty
 pub table-empty : (r q : Table) → EmptyPromise r → EmptyPromise q → r ≡ q
 table-empty = Compiled.empty-one
 
 abbrev pub OneCall : Call → Type 0
 OneCall c = (t : Table) (r q : Called) (after later : List ℕ) → CallPromise t c r after → CallPromise t c q later → (r ≡ q) × (after ≡ later)
 
--- table::Table::open
+-- tunnel_table::Table::open
 pub table-open : (id : ℕ) → OneCall (Open id)
 table-open id t = Compiled.call-one t (Open id)
 
--- table::Table::close
+-- tunnel_table::Table::close
 pub table-close : (id : ℕ) → OneCall (Close id)
 table-close id t = Compiled.call-one t (Close id)
 
--- table::Table::timeout
+-- tunnel_table::Table::timeout
 pub table-timeout : (id : ℕ) → OneCall (Timeout id)
 table-timeout id t = Compiled.call-one t (Timeout id)
 
--- table::Table::send
+-- tunnel_table::Table::send
 pub table-send : (id : ℕ) (cemi out : List ℕ) → OneCall (Send id cemi out)
 table-send id cemi out t = Compiled.call-one t (Send id cemi out)
 
--- table::Table::heard
+-- tunnel_table::Table::heard
 pub table-heard : (t : Table) (h : Heard) (out : List ℕ) (r q : Called) (after later : List ℕ) → HeardPromise t h out r after → HeardPromise t h out q later → (r ≡ q) × (after ≡ later)
 table-heard t h out = Compiled.called-one (heardOn h out (t .places))
 
--- table::Table::datagram
+-- tunnel_table::Table::datagram
 pub table-datagram : (bytes out : List ℕ) → OneCall (Datagram bytes out)
 table-datagram bytes out t = Compiled.call-one t (Datagram bytes out)
 
@@ -729,156 +730,156 @@ kip-starts s r q = same
 pub kip-next-record : One₂ Capture.NextPromise
 kip-next-record s at r q = same
 
--- kip_inspect::line
-pub kip-line : Lent₂ Line.LinePromise
-kip-line = LineLaws.line-one
+-- inspection::line
+pub kip-line : Lent₂ InspectionLines.LinePromise
+kip-line = InspectionLinesLaws.line-one
 
--- kip_inspect::scan
-pub kip-scan : (s out : List ℕ) (spot : Spot) (r q : Scanned) (after later : List ℕ) → Scan.ScanPromise s out spot r after → Scan.ScanPromise s out spot q later → (r ≡ q) × (after ≡ later)
-kip-scan = ScanLaws.scan-one
+-- inspection::scan
+pub kip-scan : (s out : List ℕ) (spot : Spot) (r q : Scanned) (after later : List ℕ) → Scanning.ScanPromise s out spot r after → Scanning.ScanPromise s out spot q later → (r ≡ q) × (after ≡ later)
+kip-scan = ScanningLaws.scan-one
 
--- kip_inspect::heading
-pub kip-heading : Lent Line.HeadingPromise
-kip-heading = LineLaws.heading-one
+-- inspection::heading
+pub kip-heading : Lent InspectionLines.HeadingPromise
+kip-heading = InspectionLinesLaws.heading-one
 
--- kip_inspect::begin
+-- inspection::begin
 pub kip-begin : (r q : Progress) → Turns.BeginPromise r → Turns.BeginPromise q → r ≡ q
 kip-begin r q = same
 
--- kip_inspect::written_out
+-- inspection::written_out
 pub kip-written-out : One Turns.WrittenOutPromise
 kip-written-out p r q = same
 
--- kip_inspect::read_on
+-- inspection::read_on
 pub kip-read-on : One₃ Turns.ReadOnPromise
 kip-read-on s p k r q = same
 
--- kip_inspect::to_front
+-- inspection::to_front
 pub kip-to-front : (s : List ℕ) (p r q : Progress) (after later : List ℕ) → Turns.ToFrontPromise s p r after → Turns.ToFrontPromise s p q later → (r ≡ q) × (after ≡ later)
 kip-to-front s p r q after later a b = (same (a .0) (b .0), same (a .1) (b .1))
 
 -- inspect_io::run
-pub inspect-run : (r q : Unit {0}) → Run.RunPromise r → Run.RunPromise q → r ≡ q
+pub inspect-run : (r q : Unit {0}) → Running.RunPromise r → Running.RunPromise q → r ≡ q
 inspect-run r q = same
 
--- kip_inspect::ending
-pub kip-ending : Lent₂ Line.EndingPromise
-kip-ending = LineLaws.ending-one
+-- inspection::ending
+pub kip-ending : Lent₂ InspectionLines.EndingPromise
+kip-ending = InspectionLinesLaws.ending-one
 
--- ---- views: what is held, and what is handed out, is settled by its bytes
+-- ---- borrowed: the bytes that a record borrows, and those that it hands out, are settled by its bytes
 
--- views::KnxnetIpFrame::parse
-pub knxnet-ip-parse : (s : List ℕ) (r q : KnxnetIpFrame) → KnxnetIp.ParsePromise s r → KnxnetIp.ParsePromise s q → (now (r .«data») ≡ now (q .«data»)) × (r .answer ≡ q .answer)
-knxnet-ip-parse = KnxnetIpLaws.parse-one
+-- borrowed::KnxnetIpFrame::parse
+pub knxnet-ip-parse : (s : List ℕ) (r q : KnxnetIpFrame) → KnxnetIpFrame.ParsePromise s r → KnxnetIpFrame.ParsePromise s q → (now (r .«data») ≡ now (q .«data»)) × (r .answer ≡ q .answer)
+knxnet-ip-parse = KnxnetIpFrameLaws.parse-one
 
--- views::KnxnetIpFrame::body
-pub knxnet-ip-body : One KnxnetIp.BodyPromise
+-- borrowed::KnxnetIpFrame::body
+pub knxnet-ip-body : One KnxnetIpFrame.BodyPromise
 knxnet-ip-body f r q = same
 
--- views::body_view
-pub knxnet-ip-body-view : One₂ KnxnetIp.BodyViewPromise
+-- borrowed::body_view
+pub knxnet-ip-body-view : One₂ KnxnetIpFrame.BodyViewPromise
 knxnet-ip-body-view s a r q x y = PartLaws.told-one r q (same x y)
 
--- views::body_in
-pub knxnet-ip-body-in : One KnxnetIp.BodyInPromise
+-- borrowed::body_in
+pub knxnet-ip-body-in : One KnxnetIpFrame.BodyInPromise
 knxnet-ip-body-in s r q = same
 
--- views::LDataFrame::parse
-pub ldata-frame-parse : (s : List ℕ) (r q : LDataFrame) → LDataView.ParsePromise s r → LDataView.ParsePromise s q → (now (r .«data») ≡ now (q .«data»)) × (r .answer ≡ q .answer)
-ldata-frame-parse = LDataViewLaws.parse-one
+-- borrowed::LDataFrame::parse
+pub ldata-frame-parse : (s : List ℕ) (r q : LDataFrame) → LDataFrame.ParsePromise s r → LDataFrame.ParsePromise s q → (now (r .«data») ≡ now (q .«data»)) × (r .answer ≡ q .answer)
+ldata-frame-parse = LDataFrameLaws.parse-one
 
--- views::LDataFrame::data
-pub ldata-frame-data : One LDataView.DataPromise
+-- borrowed::LDataFrame::data
+pub ldata-frame-data : One LDataFrame.DataPromise
 ldata-frame-data f r q = same
 
--- views::data_view
-pub ldata-frame-data-view : One₂ LDataView.DataViewPromise
+-- borrowed::data_view
+pub ldata-frame-data-view : One₂ LDataFrame.DataViewPromise
 ldata-frame-data-view s a r q x y = PartLaws.told-one r q (same x y)
 
--- views::data_in
-pub ldata-frame-data-in : One LDataView.DataInPromise
+-- borrowed::data_in
+pub ldata-frame-data-in : One LDataFrame.DataInPromise
 ldata-frame-data-in s r q = same
 
 -- ---- image
 
--- image::unpack
+-- tunnel_image::unpack
 pub image-unpack : One Image.UnpackPromise
 image-unpack = ImageLaws.unpack-one
 
--- image::pack
+-- tunnel_image::pack
 pub image-pack : Lent Image.PackPromise
 image-pack = ImageLaws.pack-one
 
 -- ---- host
 
--- host::knx_frame_parse
-pub host-frame-parse : One Reading.FramePromise
-host-frame-parse = ReadingLaws.frame-one
+-- knx::knx_frame_parse
+pub knx-frame-parse : One KnxReading.FramePromise
+knx-frame-parse = KnxReadingLaws.frame-one
 
--- host::knx_hpai_parse
-pub host-hpai-parse : One Reading.HpaiPromise
-host-hpai-parse = ReadingLaws.hpai-one
+-- knx::knx_hpai_parse
+pub knx-hpai-parse : One KnxReading.HpaiPromise
+knx-hpai-parse = KnxReadingLaws.hpai-one
 
--- host::knx_connect_response
-pub host-connect-response : One Reading.ConnectResponsePromise
-host-connect-response = ReadingLaws.connect-response-one
+-- knx::knx_connect_response
+pub knx-connect-response : One KnxReading.ConnectResponsePromise
+knx-connect-response = KnxReadingLaws.connect-response-one
 
--- host::knx_cemi_ldata
-pub host-cemi-ldata : One CemiLData.CemiLDataPromise
-host-cemi-ldata = CemiLDataLaws.cemi-ldata-one
+-- knx::knx_cemi_ldata
+pub knx-cemi-ldata : One CemiLData.CemiLDataPromise
+knx-cemi-ldata = CemiLDataLaws.cemi-ldata-one
 
--- host::knx_ldata_build
-pub host-ldata-build : (control-1 control-2 source destination tpci code six : ℕ) → Lent (Building.LDataBuildPromise control-1 control-2 source destination tpci code six)
-host-ldata-build = BuildingLaws.ldata-build-one
+-- knx::knx_ldata_build
+pub knx-ldata-build : (control-1 control-2 source destination tpci code six : ℕ) → Lent (Building.LDataBuildPromise control-1 control-2 source destination tpci code six)
+knx-ldata-build = BuildingLaws.ldata-build-one
 
--- host::knx_connect_request
-pub host-connect-request : Lent₂ Building.ConnectRequestPromise
-host-connect-request = BuildingLaws.connect-request-one
+-- knx::knx_connect_request
+pub knx-connect-request : Lent₂ Building.ConnectRequestPromise
+knx-connect-request = BuildingLaws.connect-request-one
 
--- host::knx_connectionstate_request
-pub host-connectionstate-request : Lent₂ Building.ConnectionStateRequestPromise
-host-connectionstate-request = BuildingLaws.connectionstate-request-one
+-- knx::knx_connectionstate_request
+pub knx-connectionstate-request : Lent₂ Building.ConnectionStateRequestPromise
+knx-connectionstate-request = BuildingLaws.connectionstate-request-one
 
--- host::knx_disconnect_request
-pub host-disconnect-request : Lent₂ Building.DisconnectRequestPromise
-host-disconnect-request = BuildingLaws.disconnect-request-one
+-- knx::knx_disconnect_request
+pub knx-disconnect-request : Lent₂ Building.DisconnectRequestPromise
+knx-disconnect-request = BuildingLaws.disconnect-request-one
 
--- host::knx_tunneling_request
-pub host-tunneling-request : Lent₃ Building.TunnelingRequestPromise
-host-tunneling-request = BuildingLaws.tunneling-request-one
+-- knx::knx_tunneling_request
+pub knx-tunneling-request : Lent₃ Building.TunnelingRequestPromise
+knx-tunneling-request = BuildingLaws.tunneling-request-one
 
--- host::knx_tunneling_ack
-pub host-tunneling-ack : Lent₃ Building.TunnelingAckPromise
-host-tunneling-ack = BuildingLaws.tunneling-ack-one
+-- knx::knx_tunneling_ack
+pub knx-tunneling-ack : Lent₃ Building.TunnelingAckPromise
+knx-tunneling-ack = BuildingLaws.tunneling-ack-one
 
--- host::knx_table_empty
-pub host-table-empty : (image : List ℕ) (r q : KnxWritten) (after later : List ℕ) → HostCalled.EmptyPromise image r after → HostCalled.EmptyPromise image q later → (r ≡ q) × (after ≡ later)
-host-table-empty = CalledLaws.empty-one
+-- knx::knx_table_empty
+pub knx-table-empty : (image : List ℕ) (r q : KnxWritten) (after later : List ℕ) → Called.EmptyPromise image r after → Called.EmptyPromise image q later → (r ≡ q) × (after ≡ later)
+knx-table-empty = CalledLaws.empty-one
 
 -- of the answer, the image and the output afterwards
 abbrev pub OneImage : Call → Type 0
-OneImage c = (image : List ℕ) (r q : KnxCalled) (after later out last : List ℕ) → HostCalled.CallPromise image c r after out → HostCalled.CallPromise image c q later last
+OneImage c = (image : List ℕ) (r q : KnxCalled) (after later out last : List ℕ) → Called.CallPromise image c r after out → Called.CallPromise image c q later last
     → (r ≡ q) × (after ≡ later) × (out ≡ last)
 
--- host::knx_table_open
-pub host-table-open : (id : ℕ) → OneImage (Open id)
-host-table-open id image = CalledLaws.call-one image (Open id)
+-- knx::knx_table_open
+pub knx-table-open : (id : ℕ) → OneImage (Open id)
+knx-table-open id image = CalledLaws.call-one image (Open id)
 
--- host::knx_table_close
-pub host-table-close : (id : ℕ) → OneImage (Close id)
-host-table-close id image = CalledLaws.call-one image (Close id)
+-- knx::knx_table_close
+pub knx-table-close : (id : ℕ) → OneImage (Close id)
+knx-table-close id image = CalledLaws.call-one image (Close id)
 
--- host::knx_table_timeout
-pub host-table-timeout : (id : ℕ) → OneImage (Timeout id)
-host-table-timeout id image = CalledLaws.call-one image (Timeout id)
+-- knx::knx_table_timeout
+pub knx-table-timeout : (id : ℕ) → OneImage (Timeout id)
+knx-table-timeout id image = CalledLaws.call-one image (Timeout id)
 
--- host::knx_table_send
-pub host-table-send : (id : ℕ) (cemi out : List ℕ) → OneImage (Send id cemi out)
-host-table-send id cemi out image = CalledLaws.call-one image (Send id cemi out)
+-- knx::knx_table_send
+pub knx-table-send : (id : ℕ) (cemi out : List ℕ) → OneImage (Send id cemi out)
+knx-table-send id cemi out image = CalledLaws.call-one image (Send id cemi out)
 
--- host::knx_table_datagram
-pub host-table-datagram : (bytes out : List ℕ) → OneImage (Datagram bytes out)
-host-table-datagram bytes out image = CalledLaws.call-one image (Datagram bytes out)
+-- knx::knx_table_datagram
+pub knx-table-datagram : (bytes out : List ℕ) → OneImage (Datagram bytes out)
+knx-table-datagram bytes out image = CalledLaws.call-one image (Datagram bytes out)
 
 -- ---- replay: what the programs that replay recorded calls share; of a record that was read, which no contract can say, the buffer that is lent to its call
 
@@ -907,8 +908,8 @@ pub replay-remainder : One Telling.RemainderPromise
 replay-remainder s r q = same
 
 -- replay::line
-pub replay-line : (t : Told) (s out : List ℕ) (r q : ℕ) (after later : List ℕ) → CallLine.LinePromise t s out r after → CallLine.LinePromise t s out q later → (r ≡ q) × (after ≡ later)
-replay-line = CallLaws.line-one
+pub replay-line : (t : Told) (s out : List ℕ) (r q : ℕ) (after later : List ℕ) → ReplayLines.LinePromise t s out r after → ReplayLines.LinePromise t s out q later → (r ≡ q) × (after ≡ later)
+replay-line = ReplayLaws.line-one
 
 -- replay::number24
 pub replay-number24 : One Records.Number24Promise

@@ -6,25 +6,25 @@ use mathlib.Core.List.{List, [], _∷_, _++_}
 use lib.ListN.{length}
 use lib.Dec.{eqb}
 use Rattle.wire.specs.Told.{Told, done, refused, Check}
-use Rattle.wire.specs.Written.{Writes, room}
+use Rattle.wire.specs.Writing.{Writes, room}
 use Rattle.wire.specs.Layout.{Field, byte, put}
 use Rattle.wire.specs.Format.{Format, readBy01}
 use Rattle.wire.specs.declared.refusals.Written.{Written}
-use Rattle.constants.specs.declared.ServiceType.{ServiceType}
-use Rattle.constants.specs.declared.ServiceType.the-variants as S
-use Rattle.frame.specs.Builder.{frame}
+use Rattle.constants.specs.declared.services.ServiceType.{ServiceType}
+use Rattle.constants.specs.declared.services.ServiceType.the-variants as ServiceType
+use Rattle.frame.specs.Write.{frame}
 use Rattle.hpai.specs.Hpai as Hpai
 use Rattle.hpai.specs.declared.Hpai.{Hpai}
 use Rattle.connect.specs.declared.channel.ConnectionStateRequest.{ConnectionStateRequest}
 use Rattle.connect.specs.declared.channel.ConnectionStateResponse.{ConnectionStateResponse}
 use Rattle.connect.specs.declared.channel.ConnectionStateAnswer.{ConnectionStateAnswer}
-use Rattle.connect.specs.declared.channel.ConnectionStateAnswer.the-variants as C
+use Rattle.connect.specs.declared.channel.ConnectionStateAnswer.the-variants as ConnectionStateAnswer
 use Rattle.connect.specs.declared.channel.DisconnectRequest.{DisconnectRequest}
 use Rattle.connect.specs.declared.channel.DisconnectResponse.{DisconnectResponse}
 use Rattle.connect.specs.declared.channel.DisconnectAnswer.{DisconnectAnswer}
-use Rattle.connect.specs.declared.channel.DisconnectAnswer.the-variants as D
+use Rattle.connect.specs.declared.channel.DisconnectAnswer.the-variants as DisconnectAnswer
 use Rattle.connect.specs.declared.channel.StatusAnswer.{StatusAnswer}
-use Rattle.connect.specs.declared.channel.StatusAnswer.the-variants as A
+use Rattle.connect.specs.declared.channel.StatusAnswer.the-variants as StatusAnswer
 
 -- ---- requests: channel, a zero, the control endpoint
 
@@ -45,10 +45,10 @@ abbrev pub DisconnectNewPromise : ℕ → Hpai → DisconnectRequest → Type 0
 DisconnectNewPromise channel h r = r ≡ record { «channel_id» = channel; «control_endpoint» = h }
 
 abbrev pub StateBuildPromise : ConnectionStateRequest → List ℕ → Written → List ℕ → Type 0
-StateBuildPromise q b r after = RequestPromise S.ConnectionstateRequest (q .«channel_id») (q .«control_endpoint») b r after
+StateBuildPromise q b r after = RequestPromise ServiceType.ConnectionstateRequest (q .«channel_id») (q .«control_endpoint») b r after
 
 abbrev pub DisconnectBuildPromise : DisconnectRequest → List ℕ → Written → List ℕ → Type 0
-DisconnectBuildPromise q b r after = RequestPromise S.DisconnectRequest (q .«channel_id») (q .«control_endpoint») b r after
+DisconnectBuildPromise q b r after = RequestPromise ServiceType.DisconnectRequest (q .«channel_id») (q .«control_endpoint») b r after
 
 -- ---- responses: channel, status
 
@@ -57,7 +57,7 @@ statusFields = byte ∷ byte ∷ []
 
 -- fewer than 2 (1); nothing is asked of the values
 abbrev pub statusFormat : Format
-statusFormat = record { fields = statusFields; asks = λ vs. []; holds = λ vs. vs }
+statusFormat = record { fields = statusFields; asks = λ vs. []; valuesIn = λ vs. vs }
 
 abbrev pub statusBy01 : List ℕ → Told
 statusBy01 s = readBy01 statusFormat s
@@ -67,16 +67,16 @@ abbrev pub status : ℕ → ℕ → Told
 status channel code = done (channel ∷ code ∷ [])
 
 abbrev pub toldStatus : StatusAnswer → Told
-toldStatus (A.Status s) = status (s .«channel_id») (s .status)
-toldStatus (A.Refused e) = refused 2 e
+toldStatus (StatusAnswer.Status s) = status (s .«channel_id») (s .status)
+toldStatus (StatusAnswer.Refused e) = refused 2 e
 
 abbrev pub toldState : ConnectionStateAnswer → Told
-toldState (C.Response s) = status (s .«channel_id») (s .status)
-toldState (C.Refused e) = refused 2 e
+toldState (ConnectionStateAnswer.Response s) = status (s .«channel_id») (s .status)
+toldState (ConnectionStateAnswer.Refused e) = refused 2 e
 
 abbrev pub toldDisconnect : DisconnectAnswer → Told
-toldDisconnect (D.Response s) = status (s .«channel_id») (s .status)
-toldDisconnect (D.Refused e) = refused 2 e
+toldDisconnect (DisconnectAnswer.Response s) = status (s .«channel_id») (s .status)
+toldDisconnect (DisconnectAnswer.Refused e) = refused 2 e
 
 abbrev pub StatusPromise : List ℕ → StatusAnswer → Type 0
 StatusPromise s r = toldStatus r ≡ statusBy01 s

@@ -9,23 +9,23 @@ use Rattle.wire.specs.ToldLaws.{one-to-one, answerOf, back-refused, same}
 use Rattle.wire.specs.Layout.{put}
 use Rattle.wire.specs.FormatLaws as FormatLaws
 use Rattle.wire.specs.LayoutLaws.{Bytes}
-use Rattle.wire.specs.WrittenLaws.{writes-one}
+use Rattle.wire.specs.WritingLaws.{writes-one}
 use Rattle.wire.specs.declared.refusals.Written.{Written}
-use Rattle.wire.specs.declared.refusals.Written.the-variants as W
-use Rattle.constants.specs.declared.ServiceType.{ServiceType}
-use Rattle.frame.specs.Builder.{frame}
+use Rattle.wire.specs.declared.refusals.Written.the-variants as Written
+use Rattle.constants.specs.declared.services.ServiceType.{ServiceType}
+use Rattle.frame.specs.Write.{frame}
 use Rattle.frame.specs.Frame as Frame
 use Rattle.frame.specs.RoundTrip.{Carries, carries}
-use Rattle.frame.specs.declared.fields.FrameAnswer.{FrameAnswer}
+use Rattle.frame.specs.declared.frame.FrameAnswer.{FrameAnswer}
 use Rattle.hpai.specs.Hpai as Hpai
 use Rattle.hpai.specs.HpaiLaws as HpaiLaws
 use Rattle.hpai.specs.declared.Hpai.{Hpai}
 use Rattle.hpai.specs.declared.HpaiAnswer.{HpaiAnswer}
 use Rattle.connect.specs.Channel.{requestLayout, requestChecks, RequestPromise, statusFields, statusFormat, statusBy01, status, toldState, StateParsePromise, toldDisconnect, DisconnectParsePromise}
 use Rattle.connect.specs.declared.channel.ConnectionStateAnswer.{ConnectionStateAnswer}
-use Rattle.connect.specs.declared.channel.ConnectionStateAnswer.the-variants as C
+use Rattle.connect.specs.declared.channel.ConnectionStateAnswer.the-variants as ConnectionStateAnswer
 use Rattle.connect.specs.declared.channel.DisconnectAnswer.{DisconnectAnswer}
-use Rattle.connect.specs.declared.channel.DisconnectAnswer.the-variants as D
+use Rattle.connect.specs.declared.channel.DisconnectAnswer.the-variants as DisconnectAnswer
 
 -- ---- requests, for any service
 
@@ -44,7 +44,7 @@ pub record Reads (channel : ℕ) (h : Hpai) (part : List ℕ) : Type 0 where
 
 -- built, parsed as a frame, the parts of its body parsed
 pub round-trip : (s : ServiceType) (channel : ℕ) (h : Hpai) (b : List ℕ) (n : ℕ) (after : List ℕ) (p : FrameAnswer) → HpaiLaws.Proper h
-    → RequestPromise s channel h b (W.Bytes n) after → Frame.ParsePromise after p → Carries s 16 n after p (Reads channel h)
+    → RequestPromise s channel h b (Written.Bytes n) after → Frame.ParsePromise after p → Carries s 16 n after p (Reads channel h)
 round-trip s channel h b n after p proper built parsed =
     carries (requestChecks (length b)) s (requestLayout channel h) b 16 n after p (Reads channel h) (omega (arith, HpaiLaws.length-layout h (proper .address-4))) built parsed
     (record { channel-first = refl; control-endpoint = λ r. endpoint-back channel h r proper })
@@ -52,27 +52,27 @@ round-trip s channel h b n after p proper built parsed =
 -- ---- responses
 
 abbrev stateOf : List ℕ → ConnectionStateAnswer
-stateOf vs = C.Response (record { «channel_id» = getD vs 0 0; status = getD vs 1 0 })
+stateOf vs = ConnectionStateAnswer.Response (record { «channel_id» = getD vs 0 0; status = getD vs 1 0 })
 
-state-back : (r : ConnectionStateAnswer) → answerOf stateOf C.Refused (toldState r) ≡ r
-state-back (C.Response c) = refl
-state-back (C.Refused e) = back-refused stateOf C.Refused 2 e
+state-back : (r : ConnectionStateAnswer) → answerOf stateOf ConnectionStateAnswer.Refused (toldState r) ≡ r
+state-back (ConnectionStateAnswer.Response c) = refl
+state-back (ConnectionStateAnswer.Refused e) = back-refused stateOf ConnectionStateAnswer.Refused 2 e
 
 pub state-told-one : (r q : ConnectionStateAnswer) → toldState r ≡ toldState q → r ≡ q
-state-told-one = one-to-one toldState (answerOf stateOf C.Refused) state-back
+state-told-one = one-to-one toldState (answerOf stateOf ConnectionStateAnswer.Refused) state-back
 
 pub state-parse-one : (s : List ℕ) (r q : ConnectionStateAnswer) → StateParsePromise s r → StateParsePromise s q → r ≡ q
 state-parse-one s r q a b = state-told-one r q (same a b)
 
 abbrev disconnectOf : List ℕ → DisconnectAnswer
-disconnectOf vs = D.Response (record { «channel_id» = getD vs 0 0; status = getD vs 1 0 })
+disconnectOf vs = DisconnectAnswer.Response (record { «channel_id» = getD vs 0 0; status = getD vs 1 0 })
 
-disconnect-back : (r : DisconnectAnswer) → answerOf disconnectOf D.Refused (toldDisconnect r) ≡ r
-disconnect-back (D.Response c) = refl
-disconnect-back (D.Refused e) = back-refused disconnectOf D.Refused 2 e
+disconnect-back : (r : DisconnectAnswer) → answerOf disconnectOf DisconnectAnswer.Refused (toldDisconnect r) ≡ r
+disconnect-back (DisconnectAnswer.Response c) = refl
+disconnect-back (DisconnectAnswer.Refused e) = back-refused disconnectOf DisconnectAnswer.Refused 2 e
 
 pub disconnect-told-one : (r q : DisconnectAnswer) → toldDisconnect r ≡ toldDisconnect q → r ≡ q
-disconnect-told-one = one-to-one toldDisconnect (answerOf disconnectOf D.Refused) disconnect-back
+disconnect-told-one = one-to-one toldDisconnect (answerOf disconnectOf DisconnectAnswer.Refused) disconnect-back
 
 pub disconnect-parse-one : (s : List ℕ) (r q : DisconnectAnswer) → DisconnectParsePromise s r → DisconnectParsePromise s q → r ≡ q
 disconnect-parse-one s r q a b = disconnect-told-one r q (same a b)

@@ -4,7 +4,7 @@ use mathlib.Core.Path.{_≡_}
 use mathlib.Core.List.{List, [], _∷_}
 use lib.ListN.{length, getD}
 use Rattle.wire.specs.Told.{Told, done, refused, Check, _⇒_, differs}
-use Rattle.wire.specs.Written.{Writes, room}
+use Rattle.wire.specs.Writing.{Writes, room}
 use Rattle.wire.specs.Layout.{Field, byte, size, put}
 use Rattle.wire.specs.Format.{Format, checksOf, readBy01}
 use Rattle.wire.specs.declared.refusals.Refusal.the-variants.{InvalidFrame}
@@ -33,12 +33,12 @@ abbrev pub layerIn : List ℕ → ℕ
 layerIn vs = getD vs 2 0
 
 -- what a record holds of the four values: the last is not looked at
-abbrev pub held : List ℕ → List ℕ
-held vs = typeIn vs ∷ layerIn vs ∷ []
+abbrev pub valuesIn : List ℕ → List ℕ
+valuesIn vs = typeIn vs ∷ layerIn vs ∷ []
 
 -- length byte not 4 (2)
 abbrev pub format : Format
-format = record { fields = fields; asks = λ vs. differs (lengthIn vs) (size fields) ⇒ InvalidFrame ∷ []; holds = held }
+format = record { fields = fields; asks = λ vs. differs (lengthIn vs) (size fields) ⇒ InvalidFrame ∷ []; valuesIn = valuesIn }
 
 -- of an input of n bytes with these values: fewer than 4 (1), then that
 abbrev pub checks : ℕ → List ℕ → List Check

@@ -9,10 +9,10 @@ use Rattle.wire.specs.ToldLaws.{one-to-one, answerOf, back-refused, holds, same
 use Rattle.wire.specs.Layout.{put}
 use Rattle.wire.specs.FormatLaws as FormatLaws
 use Rattle.wire.specs.LayoutLaws.{Bytes}
-use Rattle.wire.specs.WrittenLaws.{writes-one, wrote}
+use Rattle.wire.specs.WritingLaws.{writes-one, wrote}
 use Rattle.wire.specs.declared.refusals.Refusal.the-variants.{InvalidFrame}
 use Rattle.wire.specs.declared.refusals.Written.{Written}
-use Rattle.wire.specs.declared.refusals.Written.the-variants as W
+use Rattle.wire.specs.declared.refusals.Written.the-variants as Written
 use Rattle.connect.specs.Cri.{fields, format, values, layout, told, decodeBy01, DecodePromise, encodeChecks, EncodePromise}
 use Rattle.connect.specs.declared.cri.ConnectionRequestInfo.{ConnectionRequestInfo}
 use Rattle.connect.specs.declared.cri.ConnectionRequestInfoAnswer.{ConnectionRequestInfoAnswer}
@@ -39,7 +39,7 @@ pub reads-back : (c : ConnectionRequestInfo) (rest : List ℕ) → decodeBy01 (l
 reads-back c rest = FormatLaws.reads-back format (values c) rest refl refl
 
 pub encode-decode : (c : ConnectionRequestInfo) (b : List ℕ) (n : ℕ) (after : List ℕ) (r : ConnectionRequestInfoAnswer)
-    → EncodePromise c b (W.Bytes n) after → DecodePromise after r → r ≡ Info c
+    → EncodePromise c b (Written.Bytes n) after → DecodePromise after r → r ≡ Info c
 encode-decode c b n after r e q =
     told-one r (Info c) (q ∙ ap decodeBy01 (wrote (encodeChecks (length b)) (layout c) b n after e .bytes) ∙ reads-back c (drop 4 b))
 

@@ -5,14 +5,14 @@ use mathlib.Core.Path.{_≡_, ap, _∙_}
 use mathlib.Core.List.{List, [], _++_, append-assoc}
 use lib.ListN.{length, drop, length-append}
 use lib.Seq.{drop-at}
-use Rattle.wire.specs.WrittenLaws.{writes-one}
+use Rattle.wire.specs.WritingLaws.{writes-one}
 use Rattle.wire.specs.declared.refusals.Written.{Written}
-use Rattle.wire.specs.declared.refusals.Written.the-variants as W
-use Rattle.constants.specs.declared.ServiceType.the-variants as S
-use Rattle.frame.specs.Builder.{frame}
+use Rattle.wire.specs.declared.refusals.Written.the-variants as Written
+use Rattle.constants.specs.declared.services.ServiceType.the-variants as ServiceType
+use Rattle.frame.specs.Write.{frame}
 use Rattle.frame.specs.Frame as Frame
 use Rattle.frame.specs.RoundTrip.{Carries, carries}
-use Rattle.frame.specs.declared.fields.FrameAnswer.{FrameAnswer}
+use Rattle.frame.specs.declared.frame.FrameAnswer.{FrameAnswer}
 use Rattle.hpai.specs.Hpai as Hpai
 use Rattle.hpai.specs.HpaiLaws as HpaiLaws
 use Rattle.hpai.specs.declared.Hpai.{Hpai}
@@ -26,7 +26,7 @@ use Rattle.connect.specs.declared.cri.ConnectionRequestInfoAnswer.the-va
 
 pub build-one : (q : ConnectRequest) (b : List ℕ) (r s : Written) (after later : List ℕ)
     → BuildPromise q b r after → BuildPromise q b s later → (r ≡ s) × (after ≡ later)
-build-one q b = writes-one (buildChecks (length b)) (frame S.ConnectRequest (layout q)) b
+build-one q b = writes-one (buildChecks (length b)) (frame ServiceType.ConnectRequest (layout q)) b
 
 -- both endpoints have the proper length byte
 pub record Proper (q : ConnectRequest) : Type 0 where
@@ -73,9 +73,9 @@ pub record Reads (q : ConnectRequest) (part : List ℕ) : Type 0 where
 
 -- built, parsed as a frame, the parts of its body parsed
 pub round-trip : (q : ConnectRequest) (b : List ℕ) (n : ℕ) (after : List ℕ) (p : FrameAnswer) → Proper q
-    → BuildPromise q b (W.Bytes n) after → Frame.ParsePromise after p → Carries S.ConnectRequest 26 n after p (Reads q)
+    → BuildPromise q b (Written.Bytes n) after → Frame.ParsePromise after p → Carries ServiceType.ConnectRequest 26 n after p (Reads q)
 round-trip q b n after p proper built parsed =
-    carries (buildChecks (length b)) S.ConnectRequest (layout q) b 26 n after p (Reads q) (omega (arith, length-layout q proper)) built parsed (record {
+    carries (buildChecks (length b)) ServiceType.ConnectRequest (layout q) b 26 n after p (Reads q) (omega (arith, length-layout q proper)) built parsed (record {
       control-endpoint = λ r. control-back q r proper;
       data-endpoint = λ r. data-back q r proper;
       request-information = λ r. cri-back q r proper;

@@ -24,7 +24,7 @@ layout c = put fields (values c)
 
 -- the checks of the Hpai, whose values stand behind the first two
 abbrev pub format : Format
-format = record { fields = fields; asks = λ vs. Hpai.checks (size Hpai.fields) (drop 2 vs); holds = λ vs. vs }
+format = record { fields = fields; asks = λ vs. Hpai.checks (size Hpai.fields) (drop 2 vs); valuesIn = λ vs. vs }
 
 -- of a body of n bytes with these values: fewer than 14 (1), then those
 abbrev pub checks : ℕ → List ℕ → List Check

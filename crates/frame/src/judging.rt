@@ -1,7 +1,7 @@
 // What the frame checks say of a datagram, in numbers: for a caller that wants no names.
-ghost use Rattle.frame.specs.Judge.{JudgePromise};
-use crate::fields::FrameAnswer;
-use crate::fields::FrameFields;
+ghost use Rattle.frame.specs.Judging.{JudgePromise};
+use crate::frame::FrameAnswer;
+use crate::frame::FrameFields;
 
 // A number of 01 and, where it is 0, the frame's service and total length.
 pub struct Judged {

@@ -4,7 +4,7 @@ use mathlib.Core.Path.{_≡_}
 use mathlib.Core.List.{List, [], _∷_, _++_}
 use lib.ListN.{length, getD}
 use Rattle.wire.specs.Told.{Told, refused, Check, _⇒_, differs}
-use Rattle.wire.specs.Written.{Writes, room}
+use Rattle.wire.specs.Writing.{Writes, room}
 use Rattle.wire.specs.Layout.{Field, byte, word, run, size, put}
 use Rattle.wire.specs.Format.{Format, checksOf, readBy01}
 use Rattle.wire.specs.declared.refusals.Refusal.{Refusal}
@@ -33,7 +33,7 @@ lengthIn vs = getD vs 0 0
 
 -- length byte not 8 (2); the protocol byte is not checked
 abbrev pub format : Format
-format = record { fields = fields; asks = λ vs. differs (lengthIn vs) (size fields) ⇒ InvalidFrame ∷ []; holds = λ vs. vs }
+format = record { fields = fields; asks = λ vs. differs (lengthIn vs) (size fields) ⇒ InvalidFrame ∷ []; valuesIn = λ vs. vs }
 
 -- of an input of n bytes with these values: fewer than 8 (1), then that
 abbrev pub checks : ℕ → List ℕ → List Check
@@ -56,7 +56,7 @@ RefusedPromise e r = told r ≡ refused 7 e
 abbrev pub NewPromise : List ℕ → ℕ → Hpai → Type 0
 NewPromise ip port r = r ≡ record { «structure_length» = size fields; «host_protocol» = ipv4Udp; «ip_address» = ip; port = port }
 
--- a buffer below 8 (1); the fields are written as held
+-- a buffer below 8 (1); the fields are written as they are
 abbrev pub encodeChecks : ℕ → List Check
 encodeChecks m = room (size fields) m ∷ []
 

@@ -11,9 +11,9 @@ use Rattle.wire.specs.ToldLaws.{one-to-one, same}
 use Rattle.wire.specs.Layout.{highOf, lowOf, runAt, put}
 use Rattle.wire.specs.FormatLaws as FormatLaws
 use Rattle.wire.specs.LayoutLaws.{Bytes, run-all, length-put}
-use Rattle.wire.specs.WrittenLaws.{writes-one, wrote}
+use Rattle.wire.specs.WritingLaws.{writes-one, wrote}
 use Rattle.wire.specs.declared.refusals.Written.{Written}
-use Rattle.wire.specs.declared.refusals.Written.the-variants as W
+use Rattle.wire.specs.declared.refusals.Written.the-variants as Written
 use Rattle.hpai.specs.Hpai.{fields, format, values, layout, told, parseBy01, ParsePromise, encodeChecks, EncodePromise}
 use Rattle.hpai.specs.declared.Hpai.{Hpai}
 use Rattle.hpai.specs.declared.HpaiAnswer.{HpaiAnswer}
@@ -72,7 +72,7 @@ pub reads-back : (h : Hpai) (rest : List ℕ) → Proper h → parseBy01 (layout
 reads-back h rest p = FormatLaws.reads-back format (values h) rest (length-values h (p .address-4)) (simp (eq-eqb _ _ (p .length-8)))
 
 pub encode-parse : (h : Hpai) (b : List ℕ) (n : ℕ) (after : List ℕ) (r : HpaiAnswer)
-    → Proper h → EncodePromise h b (W.Bytes n) after → ParsePromise after r → r ≡ accepted h
+    → Proper h → EncodePromise h b (Written.Bytes n) after → ParsePromise after r → r ≡ accepted h
 encode-parse h b n after r p e q =
     told-one r (accepted h) (q ∙ ap parseBy01 (wrote (encodeChecks (length b)) (layout h) b n after e .bytes) ∙ reads-back h (drop (length (layout h)) b) p)
 

@@ -51,7 +51,7 @@ impl Hpai {
         HpaiAnswer { number: 0, hpai }
     }
 
-    // Writes the fields as held, the length too.
+    // Writes the fields as they are, the length too.
     pub fn encode(self, buf: &mut [u8]) -> Written
         ensures { λ r. ⌜ EncodePromise self (now (buf .entry)) r (now (buf .exit)) ⌝ }
     {

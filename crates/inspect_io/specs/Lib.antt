@@ -3,4 +3,4 @@ pub mod Reading
 pub mod ReadingLaws
 pub mod Turning
 pub mod TurningLaws
-pub mod Run
+pub mod Running

@@ -4,8 +4,8 @@ use mathlib.Core.Path.{_≡_}
 use mathlib.Core.Bool.{Bool, true, false}
 use mathlib.Core.List.{List}
 use lib.ListN.{length, take}
-use Rattle.kip_inspect.specs.Turns.{first, ReadOnPromise}
-use Rattle.kip_inspect.specs.declared.turns.Progress.{Progress}
+use Rattle.inspection.specs.Turns.{first, ReadOnPromise}
+use Rattle.inspection.specs.declared.turns.Progress.{Progress}
 use Rattle.inspect_io.specs.declared.reading.Went.{Went}
 use Rattle.inspect_io.specs.declared.reading.Went.the-variants.{On, Ended, Unread, Unwritten, TooLong}
 use Rattle.inspect_io.specs.declared.reading.Turned.{Turned}
@@ -31,7 +31,7 @@ came TooLong k = ⊥
 -- some bytes came behind those that were there, which are as before
 pub record ReadMore (input : List ℕ) (p : Progress) (after : List ℕ) (r : Turned) : Type 0 where
   pub count : ℕ
-  pub kept : take (p .have) after ≡ take (p .have) input
+  pub same-before : take (p .have) after ≡ take (p .have) input
   pub room : p .have + count ≤ length after
   pub onward : ReadOnPromise after p count (r .progress)
   pub brought : came (r .went) count

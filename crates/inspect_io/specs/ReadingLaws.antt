@@ -8,8 +8,8 @@ use lib.ListN.{length, take, length-append}
 use lib.Seq.{take-at, length-take-le}
 use borrow.Author.Tests.{le-leb}
 use Rattle.wire.specs.Clash.{never}
-use Rattle.kip_inspect.specs.Turns.{first, ReadOnPromise}
-use Rattle.kip_inspect.specs.declared.turns.Progress.{Progress}
+use Rattle.inspection.specs.Turns.{first, ReadOnPromise}
+use Rattle.inspection.specs.declared.turns.Progress.{Progress}
 use Rattle.inspect_io.specs.Reading.{stopsAt, came, ReadMore, StartPromise, there}
 use Rattle.inspect_io.specs.declared.reading.Went.{Went}
 use Rattle.inspect_io.specs.declared.reading.Went.the-variants.{On, Ended, Unread, Unwritten, TooLong}
@@ -36,7 +36,7 @@ module _ (input m rest : List ℕ) (p : Progress) (h : p .have ≤ length input)
       let room : p .have + 0 ≤ length after = omega (arith, after-long) in
       record {
         count = 0;
-        kept = as-before;
+        same-before = as-before;
         room = room;
         onward = simp (le-leb (p .have + 0) (length after) room) (ap (λ (n : ℕ). record { spot = p .spot; have = n }) z);
         brought = c;
@@ -44,7 +44,7 @@ module _ (input m rest : List ℕ) (p : Progress) (h : p .have ≤ length input)
 
   -- k bytes came
   pub some-came : (k : ℕ) → 1 ≤ k → k ≤ length m → (r : Progress) → ReadOnPromise after p k r → ReadMore input p after (record { progress = r; went = On })
-  some-came k one fits r q = record { count = k; kept = as-before; room = omega (arith, after-long); onward = q; brought = one }
+  some-came k one fits r q = record { count = k; same-before = as-before; room = omega (arith, after-long); onward = q; brought = one }
 
 -- ---- what a read leaves
 

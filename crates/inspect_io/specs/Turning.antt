@@ -6,10 +6,10 @@ use mathlib.Core.List.{List}
 use lib.Dec.{ltb}
 use Rattle.wire.specs.declared.refusals.Written.{Written}
 use Rattle.kip.specs.Capture.{whole}
-use Rattle.kip_inspect.specs.Line.{EndingPromise}
-use Rattle.kip_inspect.specs.Turns.{WrittenOutPromise}
-use Rattle.kip_inspect.specs.Reached.{Reached, restIn}
-use Rattle.kip_inspect.specs.declared.turns.Progress.{Progress}
+use Rattle.inspection.specs.Lines.{EndingPromise}
+use Rattle.inspection.specs.Turns.{WrittenOutPromise}
+use Rattle.inspection.specs.Reaching.{Reached, restIn}
+use Rattle.inspection.specs.declared.turns.Progress.{Progress}
 use Rattle.inspect_io.specs.declared.reading.Went.{Went}
 use Rattle.inspect_io.specs.declared.reading.Went.the-variants.{On, Ended, Unread, Unwritten, TooLong}
 use Rattle.inspect_io.specs.declared.reading.Turned.{Turned}

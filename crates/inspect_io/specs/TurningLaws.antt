@@ -4,8 +4,8 @@ use mathlib.Core.Path.{_≡_, sym, ap, subst, _∙_}
 use mathlib.Core.Bool.{false}
 use mathlib.Core.List.{List}
 use Rattle.kip.specs.Capture.{whole}
-use Rattle.kip_inspect.specs.Reached.{Reached, restIn, write-reaches, read-reaches, none-read}
-use Rattle.kip_inspect.specs.declared.turns.Progress.{Progress}
+use Rattle.inspection.specs.Reaching.{Reached, restIn, write-reaches, read-reaches, none-read}
+use Rattle.inspection.specs.declared.turns.Progress.{Progress}
 use Rattle.inspect_io.specs.Reading.{came, ReadMore}
 use Rattle.inspect_io.specs.Turning.{wrote, leaves, WritePromise, TurnPromise}
 use Rattle.inspect_io.specs.declared.reading.Went.{Went}
@@ -26,13 +26,13 @@ module _ (input out : List ℕ) (p : Progress) (x : Reached input out p) where
   -- a read behind the last whole record
   pub read-turns : (after : List ℕ) (r : Turned) → ReadMore input p after r → whole (restIn input p) ≡ false → TurnPromise after out r
   read-turns after r q short = (
-    read-reaches input out p x after (q .count) (q .kept) (q .room) (r .progress) (q .onward),
+    read-reaches input out p x after (q .count) (q .same-before) (q .room) (r .progress) (q .onward),
     go (r .went) (q .brought),
   )
     where
       go : (went : Went) → came went (q .count) → leaves went (restIn after (r .progress))
       go On c = tt
-      go Ended c = ap whole (none-read input out p x after (q .count) (q .kept) (q .room) (r .progress) c (q .onward)) ∙ short
+      go Ended c = ap whole (none-read input out p x after (q .count) (q .same-before) (q .room) (r .progress) c (q .onward)) ∙ short
       go Unread c = tt
       go Unwritten c = tt
       go TooLong c = tt

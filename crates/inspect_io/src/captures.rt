@@ -5,7 +5,7 @@ use crate::reading;
 use crate::reading::Turned;
 use crate::reading::Went;
 use crate::turning;
-use kip_inspect::Progress;
+use inspection::Progress;
 use libc::STDERR_FILENO;
 use libc::STDOUT_FILENO;
 use wire::Written;
@@ -28,7 +28,7 @@ fn inspect(fd: i32, name: &[u8], input: &mut [u8], out: &mut [u8], progress: Pro
 {
     let have = progress.have;
     let kip = kip::starts(wire::part(input, 0, have));
-    let used = size(kip_inspect::heading(kip, out));
+    let used = size(inspection::heading(kip, out));
     if !printed(wire::part(out, 0, used)) {
         return false;
     }
@@ -66,7 +66,7 @@ fn last_lines(progress: Progress, out: &mut [u8]) -> Written
     ensures { λ r. ⌜ LastPromise progress (now (out .entry)) r (now (out .exit)) ⌝ }
 {
     let spot = progress.spot;
-    kip_inspect::ending(spot.n, spot.at < progress.have, out)
+    inspection::ending(spot.n, spot.at < progress.have, out)
 }
 
 fn too_long(lines: &[u8]) -> bool {

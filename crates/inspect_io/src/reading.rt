@@ -2,7 +2,7 @@
 ghost use Prim.Native.Nat.{_≤_};
 ghost use lib.ListN.{length};
 ghost use Rattle.inspect_io.specs.Reading.{StopsPromise, ReadMore, ReadStartPromise};
-use kip_inspect::Progress;
+use inspection::Progress;
 
 // The capture goes on; it ended; a read failed, which is not its end; a write failed; or it has more records than are counted.
 pub(crate) enum Went {
@@ -34,7 +34,7 @@ pub(crate) fn stops(went: Went) -> bool
 pub(crate) fn read_start(fd: i32, input: &mut [u8]) -> Turned
     ensures { λ r. ⌜ ReadStartPromise (now (input .exit)) r ⌝ }
 {
-    let mut progress = kip_inspect::begin();
+    let mut progress = inspection::begin();
     let turned = loop {
         let turned = read_more(fd, input, progress);
         let went = turned.went;
@@ -71,7 +71,7 @@ pub(crate) fn read_more(fd: i32, input: &mut [u8], progress: Progress) -> Turned
             went: Went::Ended,
         };
     }
-    let next = kip_inspect::read_on(input, progress, count);
+    let next = inspection::read_on(input, progress, count);
     Turned {
         progress: next,
         went: Went::On,

@@ -1,11 +1,11 @@
 // Turn after turn, from a state that the inspection of some capture reaches to such a state.
-ghost use Rattle.kip_inspect.specs.Reached.{Reached};
+ghost use Rattle.inspection.specs.Reaching.{Reached};
 ghost use Rattle.inspect_io.specs.Turning.{WritePromise, TurnPromise};
 use crate::reading;
 use crate::reading::Turned;
 use crate::reading::Went;
-use kip_inspect::Progress;
-use kip_inspect::Stop;
+use inspection::Progress;
+use inspection::Stop;
 use libc::STDOUT_FILENO;
 
 // Every turn reads or writes a byte at least, so no capture is long enough to meet this count.
@@ -38,7 +38,7 @@ fn turn(fd: i32, input: &mut [u8], out: &mut [u8], progress: Progress) -> Turned
 {
     let from = progress.spot;
     let have = progress.have;
-    let scanned = kip_inspect::scan(wire::part(input, 0, have), out, from);
+    let scanned = inspection::scan(wire::part(input, 0, have), out, from);
     let spot = scanned.spot;
     let stop = scanned.stop;
     let handed = Progress { spot, have };
@@ -49,7 +49,7 @@ fn turn(fd: i32, input: &mut [u8], out: &mut [u8], progress: Progress) -> Turned
             went: Went::TooLong,
         },
         Stop::Short => {
-            let front = kip_inspect::to_front(input, handed);
+            let front = inspection::to_front(input, handed);
             reading::read_more(fd, input, front)
         }
     }
@@ -60,7 +60,7 @@ fn write_out(out: &[u8], progress: Progress) -> Turned
 {
     let spot = progress.spot;
     if io::write_all(STDOUT_FILENO, wire::part(out, 0, spot.used)) {
-        let emptied = kip_inspect::written_out(progress);
+        let emptied = inspection::written_out(progress);
         return Turned {
             progress: emptied,
             went: Went::On,

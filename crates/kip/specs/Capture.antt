@@ -38,17 +38,17 @@ unfoldable pub recordsOf : ℕ → List ℕ → List (List ℕ)
 recordsOf zero s = []
 recordsOf (suc n) s = cond (whole s) (firstIn s ∷ recordsOf n (restIn s)) []
 
-unfoldable pub leftOf : ℕ → List ℕ → List ℕ
-leftOf zero s = s
-leftOf (suc n) s = cond (whole s) (leftOf n (restIn s)) s
+unfoldable pub unfinishedOf : ℕ → List ℕ → List ℕ
+unfinishedOf zero s = s
+unfinishedOf (suc n) s = cond (whole s) (unfinishedOf n (restIn s)) s
 
 -- all records of the bytes behind the start: no more than there are bytes
 abbrev pub records : List ℕ → List (List ℕ)
 records s = recordsOf (length s) s
 
 -- what is left behind the whole ones: an unfinished record, a lone length byte too
-abbrev pub left : List ℕ → List ℕ
-left s = leftOf (length s) s
+abbrev pub unfinished : List ℕ → List ℕ
+unfinished s = unfinishedOf (length s) s
 
 -- ---- one at a time
 

@@ -13,7 +13,7 @@ use Rattle.wire.specs.Layout.{wordOf, wordAt}
 use Rattle.wire.specs.LayoutLaws.{Bytes}
 use Rattle.wire.specs.Parts.{partOf}
 use Rattle.wire.specs.PartLaws.{part-is}
-use Rattle.kip.specs.Capture.{whole, firstIn, restIn, recordsOf, leftOf, records, left, NextPromise}
+use Rattle.kip.specs.Capture.{whole, firstIn, restIn, recordsOf, unfinishedOf, records, unfinished, NextPromise}
 use Rattle.kip.specs.CaptureLaws.{word-drop}
 use Rattle.kip.specs.declared.capture.Next.the-variants.{Record, Short}
 
@@ -99,56 +99,56 @@ names s at start end p = go (whole (drop at s)) refl p
 
 pub record Same (n m : ℕ) (s : List ℕ) : Type 0 where
   pub same-records : recordsOf n s ≡ recordsOf m s
-  pub same-left : leftOf n s ≡ leftOf m s
+  pub same-unfinished : unfinishedOf n s ≡ unfinishedOf m s
 
 empty-not : (s : List ℕ) → length s ≤ 0 → whole s ≡ true → ⊥
 empty-not s h q = let w = is-whole s q .two in omega arith
 
 -- with a bound of at least the length, one more makes no difference
 bound-more : (n : ℕ) (s : List ℕ) → length s ≤ n → Same n (suc n) s
-unfolding recordsOf leftOf
+unfolding recordsOf unfinishedOf
 bound-more zero s h = go (whole s) refl
   where
     go : (b : Bool) → whole s ≡ b → Same zero (suc zero) s
     go true e = absurd (empty-not s h e)
-    go false e = record { same-records = rw e; same-left = rw e }
+    go false e = record { same-records = rw e; same-unfinished = rw e }
 bound-more (suc n) s h = go (whole s) refl (bound-more n (restIn s))
   where
     go : (b : Bool) → whole s ≡ b → (length (restIn s) ≤ n → Same n (suc n) (restIn s)) → Same (suc n) (suc (suc n)) s
     go true e ih =
         let two = is-whole s e .two in
         let x = ih (omega (arith, length-drop (2 + wordAt s 0) s)) in
-        record { same-records = rw e (ap (λ (rs : List (List ℕ)). firstIn s ∷ rs) (x .same-records)); same-left = rw e (x .same-left) }
-    go false e ih = record { same-records = rw e; same-left = rw e }
+        record { same-records = rw e (ap (λ (rs : List (List ℕ)). firstIn s ∷ rs) (x .same-records)); same-unfinished = rw e (x .same-unfinished) }
+    go false e ih = record { same-records = rw e; same-unfinished = rw e }
 
 -- nor does any greater bound
 bound-any : (k n m : ℕ) (s : List ℕ) → m ≡ k + n → length s ≤ n → Same n m s
 bound-any zero n m s e h =
     let q : n ≡ m = omega arith in
-    record { same-records = ap (λ (j : ℕ). recordsOf j s) q; same-left = ap (λ (j : ℕ). leftOf j s) q }
+    record { same-records = ap (λ (j : ℕ). recordsOf j s) q; same-unfinished = ap (λ (j : ℕ). unfinishedOf j s) q }
 bound-any (suc k) n m s e h =
     let x = bound-any k n (k + n) s refl h in
     let y = bound-more (k + n) s (omega arith) in
     let q : suc (k + n) ≡ m = omega arith in
     record {
       same-records = x .same-records ∙ y .same-records ∙ ap (λ (j : ℕ). recordsOf j s) q;
-      same-left = x .same-left ∙ y .same-left ∙ ap (λ (j : ℕ). leftOf j s) q;
+      same-unfinished = x .same-unfinished ∙ y .same-unfinished ∙ ap (λ (j : ℕ). unfinishedOf j s) q;
     }
 
 -- ---- the first record, and none
 
-whole-off : (s : List ℕ) → whole s ≡ true → (records s ≡ firstIn s ∷ records (restIn s)) × (left s ≡ left (restIn s))
-unfolding recordsOf leftOf
+whole-off : (s : List ℕ) → whole s ≡ true → (records s ≡ firstIn s ∷ records (restIn s)) × (unfinished s ≡ unfinished (restIn s))
+unfolding recordsOf unfinishedOf
 whole-off s e =
     let w = is-whole s e in
     let x = bound-more (length s) s (omega arith) in
     let y = bound-any (2 + wordAt s 0) (length (restIn s)) (length s) (restIn s) (omega (arith, length-drop (2 + wordAt s 0) s, w .fits)) (omega arith) in
-    (x .same-records ∙ rw e (ap (λ (rs : List (List ℕ)). firstIn s ∷ rs) (sym (y .same-records))), x .same-left ∙ rw e (sym (y .same-left)))
+    (x .same-records ∙ rw e (ap (λ (rs : List (List ℕ)). firstIn s ∷ rs) (sym (y .same-records))), x .same-unfinished ∙ rw e (sym (y .same-unfinished)))
 
 -- whatever bytes a follow u
 pub record Off (u a : List ℕ) : Type 0 where
   pub records-off : records (u ++ a) ≡ firstIn u ∷ records (restIn u ++ a)
-  pub left-off : left (u ++ a) ≡ left (restIn u ++ a)
+  pub unfinished-off : unfinished (u ++ a) ≡ unfinished (restIn u ++ a)
 
 pub first-off : (u a : List ℕ) → whole u ≡ true → Off u a
 first-off u a e =
@@ -157,18 +157,18 @@ first-off u a e =
     let rest = more-rest u a w in
     record {
       records-off = x .0 ∙ ap (λ (l : List ℕ). l ∷ records (restIn (u ++ a))) (more-first u a w) ∙ ap (λ (l : List ℕ). firstIn u ∷ records l) rest;
-      left-off = x .1 ∙ ap left rest;
+      unfinished-off = x .1 ∙ ap unfinished rest;
     }
 
 pub record Done (s : List ℕ) : Type 0 where
   pub records-done : records s ≡ []
-  pub left-done : left s ≡ s
+  pub unfinished-done : unfinished s ≡ s
 
 pub none-off : (s : List ℕ) → whole s ≡ false → Done s
-unfolding recordsOf leftOf
+unfolding recordsOf unfinishedOf
 none-off s e =
     let x = bound-more (length s) s (omega arith) in
-    record { records-done = x .same-records ∙ rw e; left-done = x .same-left ∙ rw e }
+    record { records-done = x .same-records ∙ rw e; unfinished-done = x .same-unfinished ∙ rw e }
 
 -- ---- moves
 
@@ -202,7 +202,7 @@ begun s = record { unread = []; ahead = s; handed = [] }
 -- what was handed on and what is still to come are the records of the whole
 pub record Kept (s : List ℕ) (r : Reading) : Type 0 where
   pub to-come : records s ≡ r .handed ++ records (r .unread ++ r .ahead)
-  pub to-leave : left s ≡ left (r .unread ++ r .ahead)
+  pub to-stay : unfinished s ≡ unfinished (r .unread ++ r .ahead)
 
 hand-keeps : (s : List ℕ) (r : Reading) (b : Bool) → whole (r .unread) ≡ b → Kept s r → Kept s (handedOn b r)
 hand-keeps s r false e k = k
@@ -211,7 +211,7 @@ hand-keeps s r true e k =
     let x = first-off u (r .ahead) e in
     record {
       to-come = k .to-come ∙ ap (λ (rs : List (List ℕ)). r .handed ++ rs) (x .records-off) ∙ sym (append-assoc (r .handed) (firstIn u ∷ []) (records (restIn u ++ r .ahead)));
-      to-leave = k .to-leave ∙ x .left-off;
+      to-stay = k .to-stay ∙ x .unfinished-off;
     }
 
 pub keeps : (s : List ℕ) (r : Reading) (m : Move) → Kept s r → Kept s (moved r m)
@@ -221,7 +221,7 @@ keeps s r (Fill n) k =
     ap (λ (l : List ℕ). r .unread ++ l) (sym (take-append-drop n (r .ahead))) ∙ sym (append-assoc (r .unread) (take n (r .ahead)) (drop n (r .ahead))) in
     record {
       to-come = k .to-come ∙ ap (λ (l : List ℕ). r .handed ++ records l) same;
-      to-leave = k .to-leave ∙ ap left same;
+      to-stay = k .to-stay ∙ ap unfinished same;
     }
 
 keeps-all : (s : List ℕ) (r : Reading) (ms : List Move) → Kept s r → Kept s (ran r ms)
@@ -231,7 +231,7 @@ keeps-all s r (m ∷ ms) k = keeps-all s (moved r m) ms (keeps s r m k)
 -- when all is read and no whole record is left: the records were handed on, each once and in order, and what is left is the cut one, if there is one
 pub record HandedOn (s : List ℕ) (r : Reading) : Type 0 where
   pub all : r .handed ≡ records s
-  pub cut : r .unread ≡ left s
+  pub cut : r .unread ≡ unfinished s
 
 pub kept-ends : (s : List ℕ) (r : Reading) → Kept s r → r .ahead ≡ [] → whole (r .unread) ≡ false → HandedOn s r
 kept-ends s r k empty short =
@@ -239,11 +239,11 @@ kept-ends s r k empty short =
     let d = none-off (r .unread) short in
     record {
       all = sym (k .to-come ∙ ap (λ (l : List ℕ). r .handed ++ records l) over ∙ ap (λ (rs : List (List ℕ)). r .handed ++ rs) (d .records-done) ∙ append-nil (r .handed));
-      cut = sym (k .to-leave ∙ ap left over ∙ d .left-done);
+      cut = sym (k .to-stay ∙ ap unfinished over ∙ d .unfinished-done);
     }
 
 pub begun-kept : (s : List ℕ) → Kept s (begun s)
-begun-kept s = record { to-come = refl; to-leave = refl }
+begun-kept s = record { to-come = refl; to-stay = refl }
 
 pub hands-on : (s : List ℕ) (ms : List Move) → ran (begun s) ms .ahead ≡ [] → whole (ran (begun s) ms .unread) ≡ false → HandedOn s (ran (begun s) ms)
 hands-on s ms = kept-ends s (ran (begun s) ms) (keeps-all s (begun s) ms (begun-kept s))

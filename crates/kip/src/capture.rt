@@ -36,14 +36,14 @@ pub fn next_record(s: &[u8], at: usize) -> Next
     if s.len() < at {
         return Next::Short;
     }
-    let left = s.len() - at;
-    if left < 2 {
+    let behind = s.len() - at;
+    if behind < 2 {
         return Next::Short;
     }
     let high = wire::byte_at(s, at);
     let low = wire::byte_at(s, at + 1);
     let size = wire::word(high, low) as usize;
-    if left - 2 < size {
+    if behind - 2 < size {
         return Next::Short;
     }
     Next::Record {

@@ -19,13 +19,13 @@ use Rattle.pci.specs.Application as Application
 use Rattle.pci.specs.declared.application.Apci.{Apci}
 use Rattle.pci.specs.declared.application.Apci.the-variants.{Unknown}
 use Rattle.ldata.specs.Count.{Count, startOf, crateCount}
-use Rattle.ldata.specs.declared.fields.LDataFields.{LDataFields}
-use Rattle.ldata.specs.declared.fields.LDataAnswer.{LDataAnswer}
-use Rattle.ldata.specs.declared.fields.LDataAnswer.the-variants.{Frame, Refused}
+use Rattle.ldata.specs.declared.ldata.LDataFields.{LDataFields}
+use Rattle.ldata.specs.declared.ldata.LDataAnswer.{LDataAnswer}
+use Rattle.ldata.specs.declared.ldata.LDataAnswer.the-variants.{Frame, Refused}
 use Rattle.ldata.specs.declared.destination.GroupAddressAnswer.{GroupAddressAnswer}
-use Rattle.ldata.specs.declared.destination.GroupAddressAnswer.the-variants as G
+use Rattle.ldata.specs.declared.destination.GroupAddressAnswer.the-variants as GroupAddressAnswer
 use Rattle.ldata.specs.declared.destination.IndividualAddressAnswer.{IndividualAddressAnswer}
-use Rattle.ldata.specs.declared.destination.IndividualAddressAnswer.the-variants as I
+use Rattle.ldata.specs.declared.destination.IndividualAddressAnswer.the-variants as IndividualAddressAnswer
 
 -- ---- the layout
 
@@ -55,12 +55,12 @@ ApciPromise d first second r = r ≡ apciIn d first second
 abbrev pub values : LDataFields → List ℕ
 values f = f .ctrl1 .raw ∷ f .ctrl2 .raw ∷ f .source .0 ∷ f .«destination_raw» ∷ f .«npdu_length» ∷ Transport.values (f .tpci) ++ Application.values (f .apci)
 
-abbrev pub heldBy : List ℕ → ℕ → List ℕ
-heldBy vs second =
+abbrev pub valuesBy : List ℕ → ℕ → List ℕ
+valuesBy vs second =
     take 5 vs ++ kindOf (tpciIn vs) ∷ sequenceOf (tpciIn vs) ∷ Application.values (apciIn (dataByte (tpciIn vs)) (tpciIn vs) second)
 
-abbrev pub held : List ℕ → List ℕ
-held s = heldBy (get fields 0 s) (getD s 8 0)
+abbrev pub valuesIn : List ℕ → List ℕ
+valuesIn s = valuesBy (get fields 0 s) (getD s 8 0)
 
 -- ---- checks, over how L counts
 
@@ -76,7 +76,7 @@ abbrev pub byteChecks : Count → List ℕ → List Check
 byteChecks C s = checks C (length s) (dataByte (tpciIn (get fields 0 s))) (lengthIn (get fields 0 s))
 
 abbrev pub parseBy01 : Count → List ℕ → Told
-parseBy01 C s = judged (byteChecks C s) (done (held s))
+parseBy01 C s = judged (byteChecks C s) (done (valuesIn s))
 
 -- "An accessor given a record that no parse made repeats that record's parse checks first, with their numbers."
 abbrev pub recordChecks : Count → LDataFields → ℕ → List Check
@@ -106,12 +106,12 @@ DataPartPromise f s r = r ≡ shown s (dataBy01 crateCount f s)
 
 -- an address, or none
 abbrev pub toldGroup : GroupAddressAnswer → Told
-toldGroup (G.Address a) = done (1 ∷ a .0 ∷ [])
-toldGroup G.None = done (0 ∷ 0 ∷ [])
+toldGroup (GroupAddressAnswer.Address a) = done (1 ∷ a .0 ∷ [])
+toldGroup GroupAddressAnswer.None = done (0 ∷ 0 ∷ [])
 
 abbrev pub toldIndividual : IndividualAddressAnswer → Told
-toldIndividual (I.Address a) = done (1 ∷ a .0 ∷ [])
-toldIndividual I.None = done (0 ∷ 0 ∷ [])
+toldIndividual (IndividualAddressAnswer.Address a) = done (1 ∷ a .0 ∷ [])
+toldIndividual IndividualAddressAnswer.None = done (0 ∷ 0 ∷ [])
 
 abbrev pub addressIf : Bool → ℕ → Told
 addressIf b n = cond b (done (1 ∷ n ∷ [])) (done (0 ∷ 0 ∷ []))

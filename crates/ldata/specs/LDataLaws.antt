@@ -24,14 +24,14 @@ use Rattle.pci.specs.declared.transport.Tpci.{Tpci}
 use Rattle.pci.specs.declared.transport.Tpci.the-variants.{UnnumberedData, NumberedData, UnnumberedControl, NumberedControl}
 use Rattle.pci.specs.declared.application.Apci.{Apci}
 use Rattle.ldata.specs.Count.{Count, startOf, crateCount}
-use Rattle.ldata.specs.LData.{fields, dataByte, apciIn, values, held, checks, byteChecks, told, parseBy01, dataBy01, ParsePromise, DataPromise, toldGroup, toldIndividual, DestinationGroupPromise, DestinationIndividualPromise, IsServicePromise}
-use Rattle.ldata.specs.declared.fields.LDataFields.{LDataFields}
-use Rattle.ldata.specs.declared.fields.LDataAnswer.{LDataAnswer}
-use Rattle.ldata.specs.declared.fields.LDataAnswer.the-variants.{Frame, Refused}
+use Rattle.ldata.specs.LData.{fields, dataByte, apciIn, values, valuesIn, checks, byteChecks, told, parseBy01, dataBy01, ParsePromise, DataPromise, toldGroup, toldIndividual, DestinationGroupPromise, DestinationIndividualPromise, IsServicePromise}
+use Rattle.ldata.specs.declared.ldata.LDataFields.{LDataFields}
+use Rattle.ldata.specs.declared.ldata.LDataAnswer.{LDataAnswer}
+use Rattle.ldata.specs.declared.ldata.LDataAnswer.the-variants.{Frame, Refused}
 use Rattle.ldata.specs.declared.destination.GroupAddressAnswer.{GroupAddressAnswer}
-use Rattle.ldata.specs.declared.destination.GroupAddressAnswer.the-variants as G
+use Rattle.ldata.specs.declared.destination.GroupAddressAnswer.the-variants as GroupAddressAnswer
 use Rattle.ldata.specs.declared.destination.IndividualAddressAnswer.{IndividualAddressAnswer}
-use Rattle.ldata.specs.declared.destination.IndividualAddressAnswer.the-variants as I
+use Rattle.ldata.specs.declared.destination.IndividualAddressAnswer.the-variants as IndividualAddressAnswer
 
 -- ---- on from TPCI
 
@@ -43,11 +43,11 @@ module _ (C : Count) (s : List ℕ) (d : Bool) (kind : d ≡ dataByte (getD s 7 
   over : verdict (checks C (length s) d (getD s 6 0)) ≡ verdict (byteChecks C s)
   over = ap (λ (e : Bool). verdict (checks C (length s) e (getD s 6 0))) kind
 
-  pub stood : (f : LDataFields) → values f ≡ held s → verdict (checks C (length s) d (getD s 6 0)) ≡ Accept → told (Frame f) ≡ parseBy01 C s
-  stood f read q = ap done read ∙ sym (let-pass (byteChecks C s) (done (held s)) (sym over ∙ q))
+  pub stood : (f : LDataFields) → values f ≡ valuesIn s → verdict (checks C (length s) d (getD s 6 0)) ≡ Accept → told (Frame f) ≡ parseBy01 C s
+  stood f read q = ap done read ∙ sym (let-pass (byteChecks C s) (done (valuesIn s)) (sym over ∙ q))
 
   pub fell : (e : Refusal) → verdict (checks C (length s) d (getD s 6 0)) ≡ Refuse e → told (Refused e) ≡ parseBy01 C s
-  fell e q = sym (let-refuse (byteChecks C s) (done (held s)) e (sym over ∙ q))
+  fell e q = sym (let-refuse (byteChecks C s) (done (valuesIn s)) e (sym over ∙ q))
 
 -- the kind is the first of a TPCI's values
 kind-first : (t : Tpci) (l : List ℕ) → getD (Transport.values t ++ l) 0 0 ≡ getD (Transport.values t) 0 0
@@ -77,8 +77,8 @@ accepted C n d l q =
 
 module _ (C : Count) (s : List ℕ) (f : LDataFields) (parsed : told (Frame f) ≡ parseBy01 C s) where
   -- the values of the record are those that stand in the bytes
-  pub read : values f ≡ held s
-  read = ap (λ (t : Told). t .values) (let-through (byteChecks C s) (done (held s)) (told (Frame f)) refl parsed)
+  pub read : values f ≡ valuesIn s
+  read = ap (λ (t : Told). t .values) (let-through (byteChecks C s) (done (valuesIn s)) (told (Frame f)) refl parsed)
 
   -- its data is where its bytes say
   pub kind-read : isData (f .tpci) ≡ dataByte (getD s 7 0)
@@ -90,7 +90,7 @@ module _ (C : Count) (s : List ℕ) (f : LDataFields) (parsed : told (Frame f) �
       ap (λ (d : Bool). of d (f .«npdu_length»)) kind-read ∙ ap (of (dataByte (getD s 7 0))) (ap (λ (vs : List ℕ). getD vs 4 0) read)
 
   pub stands : Stands C (length s) (dataByte (getD s 7 0)) (getD s 6 0)
-  stands = accepted C (length s) (dataByte (getD s 7 0)) (getD s 6 0) (was-accepted (byteChecks C s) (done (held s)) (told (Frame f)) refl parsed)
+  stands = accepted C (length s) (dataByte (getD s 7 0)) (getD s 6 0) (was-accepted (byteChecks C s) (done (valuesIn s)) (told (Frame f)) refl parsed)
 
   -- the first eight bytes are the layout of the record and the TPCI byte
   pub has-layout : Bytes s → 8 ≤ C .least
@@ -145,18 +145,18 @@ data-one f s r q a b = PartLaws.told-one r q (same a b)
 
 -- the address of two values, and a function back for each kind
 abbrev groupOf : Told → GroupAddressAnswer
-groupOf t = getD (G.None ∷ G.Address (record { 0 = getD (t .values) 1 0 }) ∷ []) (getD (t .values) 0 0) G.None
+groupOf t = getD (GroupAddressAnswer.None ∷ GroupAddressAnswer.Address (record { 0 = getD (t .values) 1 0 }) ∷ []) (getD (t .values) 0 0) GroupAddressAnswer.None
 
 group-back : (r : GroupAddressAnswer) → groupOf (toldGroup r) ≡ r
-group-back (G.Address a) = refl
-group-back G.None = refl
+group-back (GroupAddressAnswer.Address a) = refl
+group-back GroupAddressAnswer.None = refl
 
 abbrev individualOf : Told → IndividualAddressAnswer
-individualOf t = getD (I.None ∷ I.Address (record { 0 = getD (t .values) 1 0 }) ∷ []) (getD (t .values) 0 0) I.None
+individualOf t = getD (IndividualAddressAnswer.None ∷ IndividualAddressAnswer.Address (record { 0 = getD (t .values) 1 0 }) ∷ []) (getD (t .values) 0 0) IndividualAddressAnswer.None
 
 individual-back : (r : IndividualAddressAnswer) → individualOf (toldIndividual r) ≡ r
-individual-back (I.Address a) = refl
-individual-back I.None = refl
+individual-back (IndividualAddressAnswer.Address a) = refl
+individual-back IndividualAddressAnswer.None = refl
 
 pub destination-group-one : (f : LDataFields) (r q : GroupAddressAnswer) → DestinationGroupPromise f r → DestinationGroupPromise f q → r ≡ q
 destination-group-one f r q a b = one-to-one toldGroup groupOf group-back r q (same a b)

@@ -12,10 +12,10 @@ use Rattle.wire.specs.Parts.{shown}
 use Rattle.wire.specs.PartLaws.{part-between}
 use Rattle.wire.specs.Layout.{wordOf, highOf, lowOf}
 use Rattle.wire.specs.LayoutLaws.{word-split}
-use Rattle.wire.specs.WrittenLaws.{wrote}
-use Rattle.wire.specs.Written as Written
+use Rattle.wire.specs.WritingLaws.{wrote}
+use Rattle.wire.specs.Writing as Writing
 use Rattle.wire.specs.declared.refusals.Verdict.the-variants.{Accept}
-use Rattle.wire.specs.declared.refusals.Written.the-variants as W
+use Rattle.wire.specs.declared.refusals.Written.the-variants as Written
 use Rattle.pci.specs.Transport.{isData, kindOf, sequenceOf}
 use Rattle.pci.specs.Transport as Transport
 use Rattle.pci.specs.Application.{codeIn, apciOf, codeOf, SixBitPromise}
@@ -23,16 +23,16 @@ use Rattle.pci.specs.Application as Application
 use Rattle.pci.specs.declared.application.Apci.{Apci}
 use Rattle.pci.specs.PciLaws.{byte-back, code-back}
 use Rattle.ldata.specs.Count.{Count, startOf, crateCount}
-use Rattle.ldata.specs.LData.{dataByte, apciIn, values, held, checks, byteChecks, told, parseBy01, ParsePromise, dataBy01, DataPartPromise}
+use Rattle.ldata.specs.LData.{dataByte, apciIn, values, valuesIn, checks, byteChecks, told, parseBy01, ParsePromise, dataBy01, DataPartPromise}
 use Rattle.ldata.specs.LDataLaws.{same-kind, told-one}
 use Rattle.ldata.specs.Builder.{tpciByte, apciByte, lead, layout, BuildPromise}
-use Rattle.ldata.specs.Builder as Builder
+use Rattle.ldata.specs.Builder as LDataBuilder
 use Rattle.ldata.specs.BuilderLaws.{Builds}
-use Rattle.ldata.specs.BuilderLaws as BuilderLaws
+use Rattle.ldata.specs.BuilderLaws as LDataBuilderLaws
 use Rattle.ldata.specs.declared.builder.LDataBuilder.{LDataBuilder}
-use Rattle.ldata.specs.declared.fields.LDataFields.{LDataFields}
-use Rattle.ldata.specs.declared.fields.LDataAnswer.{LDataAnswer}
-use Rattle.ldata.specs.declared.fields.LDataAnswer.the-variants.{Frame}
+use Rattle.ldata.specs.declared.ldata.LDataFields.{LDataFields}
+use Rattle.ldata.specs.declared.ldata.LDataAnswer.{LDataAnswer}
+use Rattle.ldata.specs.declared.ldata.LDataAnswer.the-variants.{Frame}
 
 -- an L of a data packet with n bytes of data: it ends behind them, is allowed, and nine bytes are enough
 pub record Counts (C : Count) (l n : ℕ) : Type 0 where
@@ -77,8 +77,8 @@ module _ (b : LDataBuilder) (n m : ℕ) (builds : Builds b n m) where
       ∙ ap apciOf (code-in (getD (Transport.values (b .tpci)) 0 0) (getD (Transport.values (b .tpci)) 1 0) (b .«apci_code») (b .«six_bit») (builds .code-most) (builds .code-multiple))
 
   -- the bytes hold the values of the record
-  held-back : (l : ℕ) (d rest : List ℕ) → held (layout b l d ++ rest) ≡ values (built b l)
-  held-back l d rest =
+  values-back : (l : ℕ) (d rest : List ℕ) → valuesIn (layout b l d ++ rest) ≡ values (built b l)
+  values-back l d rest =
       let from : ℕ = b .source .0 in
       let to : ℕ = b .«destination_raw» in
       let read : Apci = apciIn (dataByte (tpciByte b)) (tpciByte b) (apciByte b) in
@@ -105,8 +105,8 @@ module _ (b : LDataBuilder) (n m : ℕ) (builds : Builds b n m) where
     -- the frame is accepted with its own fields, whatever follows it
     pub reads-back : parseBy01 C whole ≡ told (Frame (built b l))
     reads-back =
-        let-pass (byteChecks C (layout b l d ++ rest)) (done (held (layout b l d ++ rest))) (ap (λ (k : Bool). verdict (checks C (length whole) k l)) data-byte ∙ passes)
-        ∙ ap done (held-back l d rest)
+        let-pass (byteChecks C (layout b l d ++ rest)) (done (valuesIn (layout b l d ++ rest))) (ap (λ (k : Bool). verdict (checks C (length whole) k l)) data-byte ∙ passes)
+        ∙ ap done (values-back l d rest)
 
     -- and its data is handed out
     pub data-back : shown whole (dataBy01 C (built b l) whole) ≡ d
@@ -128,21 +128,21 @@ pub record Back (b : LDataBuilder) (d : List ℕ) (n : ℕ) (f : LDataFields) (p
 
 -- it is parsed: no premise but that the builder answered
 pub parsed : (b : LDataBuilder) (d buf : List ℕ) (n : ℕ) (after : List ℕ) (r : LDataAnswer)
-    → BuildPromise b d buf (W.Bytes n) after → ParsePromise after r → r ≡ Frame (built b (length d + 2))
+    → BuildPromise b d buf (Written.Bytes n) after → ParsePromise after r → r ≡ Frame (built b (length d + 2))
 parsed b d buf n after r built-so p =
-    let cs = Builder.checks b (length d) (length buf) in
+    let cs = LDataBuilder.checks b (length d) (length buf) in
     let w = layout b (length d + 2) d in
-    let builds = BuilderLaws.accepted b (length d) (length buf) (was-accepted cs (done (length w ∷ [])) (Written.told (W.Bytes n)) refl (built-so .0)) in
+    let builds = LDataBuilderLaws.accepted b (length d) (length buf) (was-accepted cs (done (length w ∷ [])) (Writing.told (Written.Bytes n)) refl (built-so .0)) in
     told-one r (Frame (built b (length d + 2)))
     (p ∙ ap (parseBy01 crateCount) (wrote cs w buf n after built-so .bytes) ∙ reads-back b (length d) (length buf) builds crateCount (length d + 2) d (drop (length w) buf) refl (crate-counts (length d)))
 
 pub round-trip : (b : LDataBuilder) (d buf : List ℕ) (n : ℕ) (after : List ℕ) (f : LDataFields) (part : List ℕ) (six : ℕ)
-    → BuildPromise b d buf (W.Bytes n) after → ParsePromise after (Frame f) → DataPartPromise f after part → SixBitPromise (getD after 8 0) six
+    → BuildPromise b d buf (Written.Bytes n) after → ParsePromise after (Frame f) → DataPartPromise f after part → SixBitPromise (getD after 8 0) six
     → Back b d n f part six
 round-trip b d buf n after f part six built-so p taken sixth =
-    let cs = Builder.checks b (length d) (length buf) in
+    let cs = LDataBuilder.checks b (length d) (length buf) in
     let w = layout b (length d + 2) d in
-    let builds = BuilderLaws.accepted b (length d) (length buf) (was-accepted cs (done (length w ∷ [])) (Written.told (W.Bytes n)) refl (built-so .0)) in
+    let builds = LDataBuilderLaws.accepted b (length d) (length buf) (was-accepted cs (done (length w ∷ [])) (Writing.told (Written.Bytes n)) refl (built-so .0)) in
     let written = wrote cs w buf n after built-so in
     let framed : Frame f ≡ Frame (built b (length d + 2)) = parsed b d buf n after (Frame f) built-so p in
     let same : f ≡ built b (length d + 2) = cc in

@@ -13,7 +13,7 @@ use Rattle.wire.specs.ToldLaws.{same}
 use Rattle.wire.specs.Layout.{copied}
 use Rattle.digits.specs.Digits.{decimal}
 use Rattle.replay.specs.Telling.{remainderFrom}
-use Rattle.replay.specs.Line.{Sheet, sheet, laid, all, pieces, PiecePromise, values, shown, pattern, touchedIn, touched, bytePieces, buffer, lineOf, LinePromise}
+use Rattle.replay.specs.Lines.{Sheet, sheet, laid, all, pieces, PiecePromise, values, shown, pattern, touchedIn, touched, bytePieces, buffer, lineOf, LinePromise}
 use Rattle.replay.specs.declared.telling.Told.{Told}
 use Rattle.replay.specs.Records.{patternFrom, FillPromise, EndedPromise, NextPromise}
 use Rattle.replay.specs.declared.records.Record.{Record}

@@ -1,5 +1,5 @@
 -- What `replay` promises, in reading order: definitions, then laws.
 pub mod Telling
-pub mod Line
+pub mod Lines
 pub mod Records
 pub mod Laws

@@ -6,7 +6,7 @@ use mathlib.Core.List.{List, [], _∷_, _++_}
 use lib.ListN.{length, getD, drop}
 use Rattle.io.specs.Counts.{Counts}
 use Rattle.wire.specs.Layout.{wordAt}
-use Rattle.replay.specs.Line.{pattern}
+use Rattle.replay.specs.Lines.{pattern}
 use Rattle.replay.specs.declared.records.Record.{Record}
 
 abbrev pub Number24Promise : List ℕ → ℕ → Type 0

@@ -1,6 +1,6 @@
 // The line of what a call told. A piece that does not fit is left out, and the line then differs from the one expected.
 ghost use Rattle.digits.specs.Digits.{decimal};
-ghost use Rattle.replay.specs.Line as Line;
+ghost use Rattle.replay.specs.Lines as Line;
 use crate::telling::Told;
 
 pub fn line(t: Told, buf: &[u8], out: &mut [u8]) -> usize

@@ -104,7 +104,7 @@ fn frame(f: FrameFields, args: &[u8]) -> Told {
     t.values[6] = code_in(service);
     t.values[7] = body.start;
     t.values[8] = body.end;
-    t.values[9] = replay::remainder(views::body_in(args));
+    t.values[9] = replay::remainder(borrowed::body_in(args));
     t.values[10] = data.start;
     t.values[11] = data.end;
     t.values[12] = replay::remainder(f.data_part(args));

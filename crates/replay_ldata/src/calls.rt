@@ -60,10 +60,10 @@ fn ldata_parse(args: &[u8]) -> Told {
     }
 }
 
-// The data's bytes come by the record that holds them.
+// The data's bytes come by the record that borrows them.
 fn ldata(f: LDataFields, args: &[u8]) -> Told {
     let view = f.data(args);
-    let rest = replay::remainder(views::data_in(args));
+    let rest = replay::remainder(borrowed::data_in(args));
     let mut t = fields(f, view.start, view.end, rest);
     t.count = 15;
     t.values[12] = group(f);

@@ -1,6 +1,6 @@
 // The calls on records that no parse made, 52 to 57. Argument bytes that are missing count as 0; another call gets a line that no call has.
+use crate::borrowing;
 use crate::frames;
-use crate::held;
 use crate::telegrams;
 use replay::Told;
 
@@ -10,8 +10,8 @@ pub(crate) fn answer(call: u8, args: &[u8]) -> Told {
         53 => telegrams::cemi(args),
         54 => telegrams::as_ldata(args),
         55 => telegrams::ldata(args),
-        56 => held::body(args),
-        57 => held::data(args),
+        56 => borrowing::body(args),
+        57 => borrowing::data(args),
         _ => replay::few(0, [0; 4]),
     }
 }

@@ -1,12 +1,12 @@
 // The calls on a table of tunnels, 46 to 51: the table is carried from record to record.
 use replay::Told;
-use table::Called;
-use table::Hold;
-use table::Place;
-use table::Table;
 use tunnel::Said;
 use tunnel::Tunnel;
 use tunnel::Wait;
+use tunnel_table::Called;
+use tunnel_table::Hold;
+use tunnel_table::Place;
+use tunnel_table::Table;
 
 // What a call told, and the table after it.
 pub(crate) struct Carried {

@@ -2,7 +2,7 @@
 // what a second writing of 01's rules answers to the same records is beside it, in `stdout` for the fixed sample.
 mod calls;
 
-use table::Table;
+use tunnel_table::Table;
 
 // Whether there was a record, and the table of tunnels after it.
 struct Turned {

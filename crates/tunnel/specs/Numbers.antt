@@ -5,10 +5,10 @@ use mathlib.Core.Bool.{cond}
 use mathlib.Core.List.{[], _∷_}
 use lib.ListN.{getD}
 use lib.Dec.{eqb}
-use Rattle.tunnel.specs.declared.Said.{Said}
-use Rattle.tunnel.specs.declared.Said.the-variants.{Nothing, Repeat, GiveUp, Deliver, Duplicate, OutOfOrder, Sent, Ignored}
-use Rattle.tunnel.specs.declared.Wait.{Wait}
-use Rattle.tunnel.specs.declared.Wait.the-variants.{Idle, First, Second}
+use Rattle.tunnel.specs.declared.rules.Said.{Said}
+use Rattle.tunnel.specs.declared.rules.Said.the-variants.{Nothing, Repeat, GiveUp, Deliver, Duplicate, OutOfOrder, Sent, Ignored}
+use Rattle.tunnel.specs.declared.rules.Wait.{Wait}
+use Rattle.tunnel.specs.declared.rules.Wait.the-variants.{Idle, First, Second}
 
 abbrev pub saidOf : Said → ℕ
 saidOf Nothing = 0

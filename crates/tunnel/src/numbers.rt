@@ -1,7 +1,7 @@
 // What is said and what is waited for as numbers: at the C border, and in a table's image.
 ghost use Rattle.tunnel.specs.Numbers.{SaidNumberPromise, WaitNumberPromise, WaitFromPromise};
-use crate::Said;
-use crate::Wait;
+use crate::rules::Said;
+use crate::rules::Wait;
 
 impl Said {
     pub fn number(self) -> u8

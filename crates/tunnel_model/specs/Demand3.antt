@@ -8,7 +8,7 @@ use native.Mathlib.Omega.{arith}
 use lib.Dec.{leb}
 use lib.ListN.{length, replicate, length-replicate}
 use borrow.Author.Tests.{leb-true, le-leb}
-use Rattle.tunnel_model.specs.Firsts.{bit, isId, isNone, firstOf, countOf}
+use Rattle.tunnel_model.specs.Firsts.{oneIf, isId, isNone, firstOf, countOf}
 use Rattle.tunnel_model.specs.FirstLaws.{clash, count-both}
 use Rattle.tunnel_model.specs.Store.{step, reached, names, tableTrace, loneTrace, callsOf, IsolatesAt, Isolates, Others, Opening, Opens}
 use Rattle.tunnel_model.specs.Laws.{StoreLaws}
@@ -16,13 +16,13 @@ use Rattle.tunnel_model.specs.Theorems.{all-of, run-inv, all-mine, isola
 use Rattle.tunnel_model.specs.Places.{Kind, KindLaws, holds, free, taken}
 use Rattle.tunnel_model.specs.PlacesLaws.{Kept, placesLaws, full-when, one-of}
 use Rattle.tunnel_model.specs.Count.{others, others-count}
-use Rattle.tunnel.specs.declared.Tunnel.{Tunnel}
+use Rattle.tunnel.specs.declared.rules.Tunnel.{Tunnel}
 use Rattle.tunnel_model.specs.Calls.{Call, Outcome, named, opens}
 use Rattle.tunnel_model.specs.Table.{chan, storeOf, emptyOf, tableOf}
 
 none-in : {P : Type 0} (r : P → Bool) (p : P) (n : ℕ) → r p ≡ false → countOf r (replicate n p) ≡ 0
 none-in r p zero e = refl
-none-in r p (suc n) e = let h = none-in r p n e in let k = ap bit e in omega arith
+none-in r p (suc n) e = let h = none-in r p n e in let k = ap oneIf e in omega arith
 
 module _ (K : Kind Tunnel) (W : KindLaws K) (n : ℕ) where
   abbrev pub tableLaws : StoreLaws chan (storeOf K)

@@ -9,22 +9,22 @@ use lib.ListN.{length, getD}
 use Rattle.wire.specs.Told.{done, verdict}
 use Rattle.wire.specs.ToldLaws.{never-done}
 use Rattle.wire.specs.Parts.{partOf}
-use Rattle.wire.specs.Written.{onto}
+use Rattle.wire.specs.Writing.{onto}
 use Rattle.wire.specs.declared.refusals.Refusal.{Refusal}
 use Rattle.wire.specs.declared.refusals.Refusal.the-variants.{AwaitsAck}
 use Rattle.wire.specs.declared.refusals.Verdict.{Verdict}
 use Rattle.wire.specs.declared.refusals.Verdict.the-variants.{Accept, Refuse}
-use Rattle.tunnelling.specs.Request as TunnelRequest
-use Rattle.tunnelling.specs.Ack as Acknowledgement
-use Rattle.datagram.specs.Heard.{cemiStart, heardBy01}
-use Rattle.datagram.specs.WrittenHeard.{request-stands, cemi-stands, ack-stands}
-use Rattle.datagram.specs.declared.Heard.{Heard}
-use Rattle.datagram.specs.declared.Heard.the-variants.{Request, Ack}
+use Rattle.tunnelling.specs.Request as TunnelingRequest
+use Rattle.tunnelling.specs.Ack as TunnelingAck
+use Rattle.tunnel_datagram.specs.Hearing.{cemiStart, heardBy01}
+use Rattle.tunnel_datagram.specs.WrittenHeard.{request-stands, cemi-stands, ack-stands}
+use Rattle.tunnel_datagram.specs.declared.hearing.Heard.{Heard}
+use Rattle.tunnel_datagram.specs.declared.hearing.Heard.the-variants.{Request, Ack}
 use Rattle.tunnel.specs.Rules.{waiting, arrivalOf, sendingOf}
-use Rattle.tunnel.specs.declared.Tunnel.{Tunnel}
-use Rattle.tunnel.specs.declared.Arrival.{Arrival}
-use Rattle.tunnel.specs.declared.Arrival.the-variants.{Deliver, Duplicate, OutOfOrder}
-use Rattle.tunnel.specs.declared.Said.the-variants.{Nothing}
+use Rattle.tunnel.specs.declared.rules.Tunnel.{Tunnel}
+use Rattle.tunnel.specs.declared.rules.Arrival.{Arrival}
+use Rattle.tunnel.specs.declared.rules.Arrival.the-variants.{Deliver, Duplicate, OutOfOrder}
+use Rattle.tunnel.specs.declared.rules.Said.the-variants.{Nothing}
 use Rattle.tunnel.specs.Numbers.{saidOf}
 use Rattle.tunnel_model.specs.Calls.{Send, Datagram, refuses}
 use Rattle.tunnel_model.specs.Lone.{After, orRefused, request, ack, arrived, heard, lone}
@@ -46,7 +46,7 @@ pub send-heard : (t : Tunnel) (b : ℕ) (cemi out : List ℕ) → lone t (Send b
     × (partOf (lone t (Send b cemi out) .0 .1) cemiStart (cemiStart + length cemi) ≡ cemi)
 send-heard t b cemi out z =
     let wrote : After = ((done (saidOf Nothing ∷ length (request b (t .s) cemi) ∷ []), onto out (request b (t .s) cemi)), some (sendingOf t)) in
-    let v : Verdict = verdict (TunnelRequest.buildChecks (length cemi) (length out)) in
+    let v : Verdict = verdict (TunnelingRequest.buildChecks (length cemi) (length out)) in
     let first : lone t (Send b cemi out) ≡ orRefused v out t wrote = unrefused (waiting (t .w)) AwaitsAck out t (orRefused v out t wrote) z in
     let whole : lone t (Send b cemi out) ≡ wrote = first ∙ accepted v out t wrote (sym (ap (λ (a : After). a .0 .0 .number) first) ∙ z) in
     let bytes : lone t (Send b cemi out) .0 .1 ≡ onto out (request b (t .s) cemi) = ap (λ (a : After). a .0 .1) whole in (
@@ -58,8 +58,8 @@ send-heard t b cemi out z =
 
 ack-writes : (x : Arrival) (t : Tunnel) (channel n end : ℕ) (out : List ℕ) → arrived x t channel n end out .0 .0 .number ≡ 0 → getD (arrived x t channel n end out .0 .0 .values) 1 0 ≡ 11
     → arrived x t channel n end out .0 .1 ≡ onto out (ack channel n)
-ack-writes Deliver t channel n end out z w = ap (λ (a : After). a .0 .1) (accepted (verdict (Acknowledgement.buildChecks (length out))) out t _ z)
-ack-writes Duplicate t channel n end out z w = ap (λ (a : After). a .0 .1) (accepted (verdict (Acknowledgement.buildChecks (length out))) out t _ z)
+ack-writes Deliver t channel n end out z w = ap (λ (a : After). a .0 .1) (accepted (verdict (TunnelingAck.buildChecks (length out))) out t _ z)
+ack-writes Duplicate t channel n end out z w = ap (λ (a : After). a .0 .1) (accepted (verdict (TunnelingAck.buildChecks (length out))) out t _ z)
 ack-writes OutOfOrder t channel n end out z w = absurd (let k : _≡_ {A = ℕ} 0 11 = w in omega arith)
 
 pub ack-heard : (t : Tunnel) (channel n end : ℕ) (bytes out : List ℕ) → heardBy01 bytes ≡ Request channel n end → lone t (Datagram bytes out) .0 .0 .number ≡ 0

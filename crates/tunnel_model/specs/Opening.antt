@@ -7,7 +7,7 @@ use mathlib.Core.Logic.{_↔_}
 use mathlib.Core.List.{List}
 use mathlib.Core.Option.{Option, none, some}
 use Rattle.tunnel.specs.Rules.{afresh}
-use Rattle.tunnel.specs.declared.Tunnel.{Tunnel}
+use Rattle.tunnel.specs.declared.rules.Tunnel.{Tunnel}
 use Rattle.tunnel_model.specs.Firsts.{isNone}
 use Rattle.tunnel_model.specs.FirstLaws.{clash, none-some}
 use Rattle.tunnel_model.specs.Store.{step, stepAt, opened, reached, Others, Opening}

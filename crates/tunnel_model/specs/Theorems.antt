@@ -138,8 +138,8 @@ module _ (C : Chan) (S : Store C) (L : StoreLaws C S) (l₀ : S .Table) (b : ℕ
       lone-none (d ∷ ds) = refl
 
       -- a call that does not pass leaves B as it is
-      left : (p : C .State) → S .look b l ≡ some p → test c ≡ false → S .look b (step C S l c .1) ≡ some p
-      left p e t = named-or-not (names C b c) refl
+      as-before : (p : C .State) → S .look b l ≡ some p → test c ≡ false → S .look b (step C S l c .1) ≡ some p
+      as-before p e t = named-or-not (names C b c) refl
         where
           named-or-not : (m : Bool) → names C b c ≡ m → S .look b (step C S l c .1) ≡ some p
           named-or-not true m =
@@ -150,7 +150,7 @@ module _ (C : Chan) (S : Store C) (L : StoreLaws C S) (l₀ : S .Table) (b : ℕ
       -- and B stays of its kind
       still : (p : C .State) → S .look b l ≡ some p → (t : Bool) → test c ≡ t → (q : C .State) → S .look b (step C S l c .1) ≡ some q → Own q
       still p e true t q f = W .stays p q c (own p e) t (sym (mine C S L l₀ b l c p v (W .naming c t) e .1) ∙ f)
-      still p e false t q f = own q (e ∙ sym (left p e t) ∙ f)
+      still p e false t q f = own q (e ∙ sym (as-before p e t) ∙ f)
 
       go : (o : Option (C .State)) → S .look b l ≡ o → (t : Bool) → test c ≡ t
           → (((q : C .State) → S .look b (step C S l c .1) ≡ some q → Own q)
@@ -164,4 +164,4 @@ module _ (C : Chan) (S : Store C) (L : StoreLaws C S) (l₀ : S .Table) (b : ℕ
           let w = m .1 in
           let later = ih (still p e true t) in
           rw (later, w, a)
-      go (some p) e false t ih = ih (still p e false t) ∙ ap (λ (o : Option (C .State)). loneTrace C o (callsOf C test cs)) (left p e t)
+      go (some p) e false t ih = ih (still p e false t) ∙ ap (λ (o : Option (C .State)). loneTrace C o (callsOf C test cs)) (as-before p e t)

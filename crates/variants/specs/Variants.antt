@@ -5,10 +5,10 @@ use mathlib.Core.List.{List, [], _∷_}
 use Rattle.wire.specs.Coding.{variantIn}
 use Rattle.wire.specs.declared.refusals.Refusal.{Refusal}
 use Rattle.wire.specs.declared.refusals.Refusal.the-variants.{BufferTooSmall, InvalidFrame, UnsupportedVersion, UnsupportedServiceType, PayloadTooLarge, InvalidMessageCode, AlreadyOpen, TableFull, NotOpen, AwaitsAck, AwaitsNothing, NotForTunnels, FieldOutOfRange}
-use Rattle.constants.specs.declared.ServiceType.{ServiceType}
-use Rattle.constants.specs.declared.ServiceType.the-variants.{ConnectRequest, ConnectResponse, ConnectionstateRequest, ConnectionstateResponse, DisconnectRequest, DisconnectResponse, TunnellingRequest, TunnellingAck}
-use Rattle.constants.specs.declared.message_code.CEMIMessageCode.{CEMIMessageCode}
-use Rattle.constants.specs.declared.message_code.CEMIMessageCode.the-variants.{LDataReq, LDataInd, LDataCon, LRawReq, LRawInd, LRawCon, LBusmonInd}
+use Rattle.constants.specs.declared.services.ServiceType.{ServiceType}
+use Rattle.constants.specs.declared.services.ServiceType.the-variants.{ConnectRequest, ConnectResponse, ConnectionstateRequest, ConnectionstateResponse, DisconnectRequest, DisconnectResponse, TunnellingRequest, TunnellingAck}
+use Rattle.constants.specs.declared.message_codes.CEMIMessageCode.{CEMIMessageCode}
+use Rattle.constants.specs.declared.message_codes.CEMIMessageCode.the-variants.{LDataReq, LDataInd, LDataCon, LRawReq, LRawInd, LRawCon, LBusmonInd}
 use Rattle.constants.specs.declared.priorities.Priority.{Priority}
 use Rattle.constants.specs.declared.priorities.Priority.the-variants.{System, Normal, Urgent, Low}
 use Rattle.pci.specs.declared.application.Apci.{Apci}

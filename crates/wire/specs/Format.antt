@@ -12,7 +12,7 @@ pub record Format : Type 0 where
   -- the checks of the values, behind the one of the size
   pub asks : List ℕ → List Check
   -- the values that a record holds: those that are looked at
-  pub holds : List ℕ → List ℕ
+  pub valuesIn : List ℕ → List ℕ
 
 module _ (F : Format) where
   -- of an input of n bytes with these values: fewer bytes than the fields have (1), then what is asked of the values
@@ -20,7 +20,7 @@ module _ (F : Format) where
   checksOf n vs = ltb n (size (F .fields)) ⇒ BufferTooSmall ∷ F .asks vs
 
   abbrev pub readBy01 : List ℕ → Told
-  readBy01 s = judged (checksOf (length s) (get (F .fields) 0 s)) (done (F .holds (get (F .fields) 0 s)))
+  readBy01 s = judged (checksOf (length s) (get (F .fields) 0 s)) (done (F .valuesIn (get (F .fields) 0 s)))
 
   abbrev pub bytesOf : List ℕ → List ℕ
   bytesOf vs = put (F .fields) vs

@@ -22,16 +22,16 @@ module _ (F : Format) where
   stands n vs h q = simp (le-ltb n (size (F .fields)) h) q
 
   -- written, then read, whatever follows
-  pub reads-back : (vs rest : List ℕ) → length vs ≡ count (F .fields) → verdict (F .asks vs) ≡ Accept → readBy01 F (bytesOf F vs ++ rest) ≡ done (F .holds vs)
+  pub reads-back : (vs rest : List ℕ) → length vs ≡ count (F .fields) → verdict (F .asks vs) ≡ Accept → readBy01 F (bytesOf F vs ++ rest) ≡ done (F .valuesIn vs)
   reads-back vs rest many q =
       let n : ℕ = length (bytesOf F vs ++ rest) in
       let enough : size (F .fields) ≤ n = omega (arith, length-append (bytesOf F vs) rest, length-put (F .fields) vs many) in
-      ap (λ (us : List ℕ). judged (checksOf F n us) (done (F .holds us))) (get-put (F .fields) vs [] rest 0 refl many)
-      ∙ let-pass (checksOf F n vs) (done (F .holds vs)) (stands n vs enough q)
+      ap (λ (us : List ℕ). judged (checksOf F n us) (done (F .valuesIn us))) (get-put (F .fields) vs [] rest 0 refl many)
+      ∙ let-pass (checksOf F n vs) (done (F .valuesIn vs)) (stands n vs enough q)
 
   -- read, and accepted: what was told is held, the values were as asked, and the bytes are those of the values
   pub record Accepted (s : List ℕ) (t : Told) : Type 0 where
-    pub told-is : t ≡ done (F .holds (get (F .fields) 0 s))
+    pub told-is : t ≡ done (F .valuesIn (get (F .fields) 0 s))
     pub enough : size (F .fields) ≤ length s
     pub asked : verdict (F .asks (get (F .fields) 0 s)) ≡ Accept
     pub bytes : Bytes s → take (size (F .fields)) s ≡ bytesOf F (get (F .fields) 0 s)
@@ -44,10 +44,10 @@ module _ (F : Format) where
   accepted s t z q =
       let vs : List ℕ = get (F .fields) 0 s in
       let cs : List Check = checksOf F (length s) vs in
-      let all : verdict cs ≡ Accept = was-accepted cs (done (F .holds vs)) t z q in
+      let all : verdict cs ≡ Accept = was-accepted cs (done (F .valuesIn vs)) t z q in
       let room : size (F .fields) ≤ length s = ltb-false (length s) (size (F .fields)) (holds [] (ltb (length s) (size (F .fields))) BufferTooSmall (F .asks vs) all) in
       record {
-        told-is = let-through cs (done (F .holds vs)) t z q;
+        told-is = let-through cs (done (F .valuesIn vs)) t z q;
         enough = room;
         asked = rest-holds (ltb (length s) (size (F .fields))) (F .asks vs) all;
         bytes = λ b. sym (put-get (F .fields) 0 s b (omega (arith, room)));

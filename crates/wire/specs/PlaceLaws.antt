@@ -15,7 +15,7 @@ pub record Decided (cs : List Check) : Type 0 where
   pub decides : verdict cs ≡ verdictAt cs (place cs)
   pub in-range : place cs ≤ length cs
   pub is-broken : place cs < length cs → brokenAt cs (place cs) ≡ true
-  pub held-before : (i : ℕ) → i < place cs → brokenAt cs i ≡ false
+  pub unbroken-before : (i : ℕ) → i < place cs → brokenAt cs i ≡ false
   pub none-broken : verdict cs ≡ Accept → place cs ≡ length cs
 
 -- one check more in front: where it is broken it decides, else the others do
@@ -24,21 +24,21 @@ in-front broken true cs k d e = record {
   decides = rw k;
   in-range = rw k (omega arith);
   is-broken = λ h. rw k;
-  held-before = λ i h. absurd (let z : i < 0 = rw k at h in omega arith);
+  unbroken-before = λ i h. absurd (let z : i < 0 = rw k at h in omega arith);
   none-broken = λ q. never cc;
 }
 in-front broken false cs k d e = record {
   decides = rw k (d .decides);
   in-range = rw k (omega (arith, d .in-range));
   is-broken = λ h. (let z : suc (place cs) < suc (length cs) = rw k at h in rw k (d .is-broken (omega arith)));
-  held-before = λ i h. before i (rw k at h);
+  unbroken-before = λ i h. before i (rw k at h);
   none-broken = λ q. rw k (ap suc (d .none-broken (rw k at q)));
 }
   where
     before : (i : ℕ) → i < suc (place cs) → brokenAt (broken ⇒ e ∷ cs) i ≡ false
     before zero h = k
-    before (suc j) h = d .held-before j (omega arith)
+    before (suc j) h = d .unbroken-before j (omega arith)
 
 pub decided : (cs : List Check) → Decided cs
-decided [] = record { decides = refl; in-range = omega arith; is-broken = λ h. absurd (omega arith); held-before = λ i h. refl; none-broken = λ q. refl }
+decided [] = record { decides = refl; in-range = omega arith; is-broken = λ h. absurd (omega arith); unbroken-before = λ i h. refl; none-broken = λ q. refl }
 decided (broken ⇒ e ∷ cs) = in-front broken broken cs refl (decided cs) e

@@ -8,7 +8,7 @@ use Rattle.wire.specs.ToldLaws.{carried, let-pass, let-refuse, let-through, was
 use Rattle.wire.specs.Layout.{get}
 use Rattle.header.specs.Header.{fields, serviceIn, totalIn}
 use Rattle.frame.specs.Frame as Frame
-use Rattle.frame.specs.declared.fields.FrameAnswer.the-variants.{Frame}
+use Rattle.frame.specs.declared.frame.FrameAnswer.the-variants.{Frame}
 use borrow.Author.Needs.{needs}
 use Rattle.frame.proofs.judging.judge.Statement.{statement}
 use Rattle.frame.proofs.judging.judge.Tie as tie

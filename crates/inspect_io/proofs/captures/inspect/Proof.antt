@@ -1,7 +1,7 @@
 -- Once the start is there, the state is one that the inspection reaches. Assumes nothing.
 use mathlib.Core.Path.{sym, ap, _∙_}
 use Rattle.kip.specs.Capture.{startsBy01}
-use Rattle.kip_inspect.specs.Reached.{begin-reaches}
+use Rattle.inspection.specs.Reaching.{begin-reaches}
 use borrow.Author.Needs.{needs}
 use Rattle.inspect_io.proofs.captures.inspect.Statement.{statement}
 use Rattle.inspect_io.proofs.captures.inspect.Tie as tie

@@ -4,8 +4,8 @@ use native.Mathlib.Omega.{arith}
 use mathlib.Core.Path.{_≡_, refl, sym, ap, _∙_}
 use lib.ListN.{length}
 use borrow.Author.Needs.{needs}
-use Rattle.kip_inspect.specs.Turns.{first}
-use Rattle.kip_inspect.specs.declared.turns.Progress.{Progress}
+use Rattle.inspection.specs.Turns.{first}
+use Rattle.inspection.specs.declared.turns.Progress.{Progress}
 use Rattle.inspect_io.specs.ReadingLaws.{start-kept, grows, not-on, five-there}
 use Rattle.inspect_io.proofs.reading.read_start.Statement.{statement}
 use Rattle.inspect_io.proofs.reading.read_start.Tie as tie
@@ -41,8 +41,8 @@ loop-again : tie.Need-loop-again Inv-loop μ-loop
 loop-again c =
     let l = c .before .before .before .before .before .before .before .before .before .loop in
     let more = c .before .before .before .before .before .before .before .read-more in
-    let kept = start-kept (l .input) (l .progress) (more .last .1 .0) (more .result) (more .ensures) (l .inv .1) in
-    (search needs, kept .0, kept .1, omega arith)
+    let same-before = start-kept (l .input) (l .progress) (more .last .1 .0) (more .result) (more .ensures) (l .inv .1) in
+    (search needs, same-before .0, same-before .1, omega arith)
 
 same-length : tie.Need-same-length Inv-loop μ-loop
 same-length c = search needs

@@ -4,11 +4,11 @@ use mathlib.Core.Path.{_≡_, ap, subst, _∙_}
 use mathlib.Core.Bool.{false}
 use mathlib.Core.List.{List}
 use Rattle.kip.specs.Capture.{whole}
-use Rattle.kip_inspect.specs.Scan.{ScanPromise}
-use Rattle.kip_inspect.specs.Printed as Printed
-use Rattle.kip_inspect.specs.Turns.{readIn}
-use Rattle.kip_inspect.specs.Reached.{Reached, restIn, scan-reaches, front-reaches, front-rest, front-holds}
-use Rattle.kip_inspect.specs.declared.turns.Progress.{Progress}
+use Rattle.inspection.specs.Scanning.{ScanPromise}
+use Rattle.inspection.specs.Printing as Printing
+use Rattle.inspection.specs.Turns.{readIn}
+use Rattle.inspection.specs.Reaching.{Reached, restIn, scan-reaches, front-reaches, front-rest, front-holds}
+use Rattle.inspection.specs.declared.turns.Progress.{Progress}
 use Rattle.inspect_io.specs.TurningLaws.{write-turns, read-turns}
 use borrow.Author.Needs.{needs}
 use Rattle.inspect_io.proofs.turning.turn.Statement.{statement}
@@ -89,7 +89,7 @@ returns-3 c =
     let front = c .before .before .before .before .before .before .to-front in
     let more = c .before .before .read-more in
     let out = one .scan .last .1 .0 in
-    let none : whole (restIn (a .input .now) (handed one)) ≡ false = Printed.ends (readIn (a .input .now) (a .progress)) (a .out .now) (a .progress .spot) (one .scan .result) out (scans one) (c .before .before .before .before .before .before .before .before .enum-told3 .given .1) in
+    let none : whole (restIn (a .input .now) (handed one)) ≡ false = Printing.ends (readIn (a .input .now) (a .progress)) (a .out .now) (a .progress .spot) (one .scan .result) out (scans one) (c .before .before .before .before .before .before .before .before .enum-told3 .given .1) in
     let rest = front-rest (a .input .now) out (handed one) (reached one) (front .result) (front .last .0) (front .ensures) in
     let x = front-reaches (a .input .now) out (handed one) (reached one) (front .result) (front .last .0) (front .ensures) in
     read-turns (front .last .0) out (front .result) x (more .last .1 .0) (more .result) (more .ensures) (ap whole rest ∙ none)

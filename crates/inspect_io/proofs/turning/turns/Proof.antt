@@ -2,7 +2,7 @@
 use mathlib.Core.Path.{_≡_, refl}
 use lib.ListN.{length}
 use borrow.Author.Needs.{needs}
-use Rattle.kip_inspect.specs.Reached.{Reached}
+use Rattle.inspection.specs.Reaching.{Reached}
 use Rattle.inspect_io.proofs.turning.turns.Statement.{statement}
 use Rattle.inspect_io.proofs.turning.turns.Tie as tie
 

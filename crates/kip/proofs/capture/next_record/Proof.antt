@@ -17,8 +17,8 @@ returns c =
     let s = a .s .now in
     ap (λ (b : Bool). cond b (Record (a .at + 2) (a .at + 2 + wordAt s (a .at))) Short) (sym (too-few s (a .at) (omega arith)))
 
-sub-left : tie.Need-sub-left
-sub-left c = search needs
+sub-behind : tie.Need-sub-behind
+sub-behind c = search needs
 
 returns-2 : tie.Need-returns-2
 returns-2 c =
@@ -70,7 +70,7 @@ next-record-spec =
     tie.close
     (tie.spec
     returns
-    sub-left
+    sub-behind
     returns-2
     byte-at-requires
     add-byte-at

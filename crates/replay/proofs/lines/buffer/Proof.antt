@@ -1,7 +1,7 @@
 -- The pieces of a buffer, one behind the other. Assumes nothing.
 use native.Mathlib.Omega.{arith}
 use lib.ListN.{length}
-use Rattle.replay.specs.Line.{sheet}
+use Rattle.replay.specs.Lines.{sheet}
 use Rattle.replay.specs.Laws.{touched-most, buffered}
 use borrow.Author.Needs.{needs}
 use Rattle.replay.proofs.lines.buffer.Statement.{statement}

@@ -3,7 +3,7 @@ use Prim.Native.Nat.{ℕ, _≤_, _-_}
 use native.Mathlib.Omega.{arith}
 use mathlib.Core.Path.{_≡_, refl, sym, ap, _∙_}
 use lib.ListN.{length}
-use Rattle.replay.specs.Line.{sheet, laid, all, pieces, hexByte, bytePieces}
+use Rattle.replay.specs.Lines.{sheet, laid, all, pieces, hexByte, bytePieces}
 use Rattle.replay.specs.Laws.{pieces-begin, pieces-turn, pieces-done}
 use borrow.Author.Needs.{needs}
 use Rattle.replay.proofs.lines.bytes.Statement.{statement}

@@ -3,7 +3,7 @@ use Prim.Native.Nat.{ℕ, _/_, _%_}
 use Rattle.digits.specs.Digits.{hexDigit}
 use mathlib.Core.Path.{subst, ap, _∙_}
 use mathlib.Core.List.{List, [], _∷_}
-use Rattle.replay.specs.Line.{PiecePromise}
+use Rattle.replay.specs.Lines.{PiecePromise}
 use borrow.Author.Needs.{needs}
 use Rattle.replay.proofs.lines.hex.Statement.{statement}
 use Rattle.replay.proofs.lines.hex.Tie as tie

@@ -2,7 +2,7 @@
 use mathlib.Core.Path.{sym, ap, _∙_}
 use mathlib.Core.Bool.{Bool, cond}
 use mathlib.Core.List.{[]}
-use Rattle.replay.specs.Line.{sheet, all, buffer}
+use Rattle.replay.specs.Lines.{sheet, all, buffer}
 use Rattle.replay.specs.Laws.{lined}
 use borrow.Author.Needs.{needs}
 use Rattle.replay.proofs.lines.line.Statement.{statement}

@@ -3,7 +3,7 @@ use Prim.Native.Nat.{ℕ, _≤_}
 use native.Mathlib.Omega.{arith}
 use mathlib.Core.Path.{_≡_, refl, sym, ap, _∙_}
 use lib.ListN.{length}
-use Rattle.replay.specs.Line.{touchedIn, touched}
+use Rattle.replay.specs.Lines.{touchedIn, touched}
 use Rattle.replay.specs.Laws.{touched-none, touched-same, touched-other}
 use borrow.Author.Needs.{needs}
 use Rattle.replay.proofs.lines.touched.Statement.{statement}

@@ -4,7 +4,7 @@ use native.Mathlib.Omega.{arith}
 use mathlib.Core.Path.{_≡_, refl, sym, ap, _∙_}
 use lib.ListN.{length, getD}
 use Rattle.digits.specs.Digits.{decimal}
-use Rattle.replay.specs.Line.{Sheet, sheet, laid, all, pieces, valuePieces, values}
+use Rattle.replay.specs.Lines.{Sheet, sheet, laid, all, pieces, valuePieces, values}
 use Rattle.replay.specs.Laws.{pieces-begin, pieces-turn, pieces-done, shown-most}
 use borrow.Author.Needs.{needs}
 use Rattle.replay.proofs.lines.values.Statement.{statement}

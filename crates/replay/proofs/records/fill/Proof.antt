@@ -5,7 +5,7 @@ use mathlib.Core.Path.{_≡_, refl, sym, ap, _∙_}
 use mathlib.Core.List.{List, _++_}
 use lib.ListN.{length, take, set, length-set}
 use lib.Seq.{take-all}
-use Rattle.replay.specs.Line.{pattern}
+use Rattle.replay.specs.Lines.{pattern}
 use Rattle.replay.specs.Records.{patternFrom}
 use Rattle.replay.specs.Laws.{pattern-begin, fill-turn, none-more}
 use borrow.Author.Needs.{needs}

@@ -1,0 +1,304 @@
+/* Every function of include/knx.h, called from C. The expected bytes and numbers are typed from document 01
+ * and the KNX documents. Each call's arguments differ, so that a declaration with two of them swapped fails;
+ * compare/border/swaps tries every two. */
+#include "knx.h"
+
+#include <stdio.h>
+#include <string.h>
+
+static int checks;
+static int failures;
+
+static void check(int holds, const char *what, int line) {
+    checks++;
+    if (!holds) {
+        failures++;
+        printf("calls.c:%d: %s\n", line, what);
+    }
+}
+
+#define CHECK(holds) check((holds), #holds, __LINE__)
+
+/* A length that a declaration with one or two bytes for it would make 0 of. */
+enum { LONG = 65536 };
+
+/* A buffer that is lent: filled with a pattern before the call. */
+static uint8_t out[70000];
+
+static void fill(void) {
+    for (size_t i = 0; i < sizeof out; i++) out[i] = (uint8_t)(i % 251 + 1);
+}
+
+/* The buffer holds the n bytes and then the pattern. */
+static int holds(const uint8_t *bytes, size_t n) {
+    if (memcmp(out, bytes, n) != 0) return 0;
+    for (size_t i = n; i < sizeof out; i++)
+        if (out[i] != (uint8_t)(i % 251 + 1)) return 0;
+    return 1;
+}
+
+static int untouched(void) { return holds(out, 0); }
+
+#define BYTES(...) ((const uint8_t[]){__VA_ARGS__})
+#define SIZE(...) (sizeof(BYTES(__VA_ARGS__)))
+#define LENT(...) BYTES(__VA_ARGS__), SIZE(__VA_ARGS__)
+
+/* ---- reading */
+
+static int frame_is(KnxFrame f, size_t start, size_t end, unsigned service, unsigned total, unsigned number) {
+    return f.start == start && f.end == end && f.service == service && f.total == total && f.number == number;
+}
+
+static void frames(void) {
+    CHECK(frame_is(knx_frame_parse(BYTES(0), 0), 0, 0, 0, 0, 1));
+    CHECK(frame_is(knx_frame_parse(LENT(0x06, 0x10, 0x04, 0x20, 0x00)), 0, 0, 0, 0, 1));
+    CHECK(frame_is(knx_frame_parse(LENT(0x05, 0x20, 0x04, 0x20, 0x00, 0x06)), 0, 0, 0, 0, 2));
+    CHECK(frame_is(knx_frame_parse(LENT(0x06, 0x20, 0x04, 0x20, 0x00, 0x06)), 0, 0, 0, 0, 3));
+    CHECK(frame_is(knx_frame_parse(LENT(0x06, 0x10, 0xFF, 0xFF, 0x00, 0x06)), 0, 0, 0, 0, 4));
+    CHECK(frame_is(knx_frame_parse(LENT(0x06, 0x10, 0x04, 0x20, 0x00, 0x05)), 0, 0, 0, 0, 2));
+    CHECK(frame_is(knx_frame_parse(LENT(0x06, 0x10, 0x04, 0x20, 0x00, 0x07)), 0, 0, 0, 0, 2));
+    CHECK(frame_is(knx_frame_parse(LENT(0x06, 0x10, 0x04, 0x20, 0x00, 0x06)), 6, 6, 0x0420, 6, 0));
+    CHECK(frame_is(knx_frame_parse(LENT(0x06, 0x10, 0x04, 0x21, 0x00, 0x0B, 0x04, 0x15, 0x07, 0x00, 0x00, 0xEE, 0xEE)),
+                   6, 11, 0x0421, 11, 0));
+}
+
+static void hpais(void) {
+    KnxHpai h = knx_hpai_parse(LENT(0x08, 0x02, 0xC0, 0xA8, 0x01, 0x0A, 0x0E, 0x57, 0xEE));
+    CHECK(h.number == 0 && h.structure_length == 8 && h.host_protocol == 2 && h.port == 3671);
+    CHECK(memcmp(h.address, BYTES(192, 168, 1, 10), 4) == 0);
+    h = knx_hpai_parse(LENT(0x08, 0x01, 0xC0, 0xA8, 0x01, 0x0A, 0x0E));
+    CHECK(h.number == 1 && h.structure_length == 0 && h.host_protocol == 0 && h.port == 0);
+    CHECK(memcmp(h.address, BYTES(0, 0, 0, 0), 4) == 0);
+    h = knx_hpai_parse(LENT(0x07, 0x01, 0xC0, 0xA8, 0x01, 0x0A, 0x0E, 0x57));
+    CHECK(h.number == 2 && h.port == 0);
+}
+
+static void connect_responses(void) {
+    KnxConnectResponse r =
+        knx_connect_response(LENT(0x15, 0x24, 0x08, 0x01, 0x0A, 0x00, 0x00, 0x07, 0xC3, 0x50, 0x04, 0x05, 0x11, 0x0A));
+    CHECK(r.number == 0 && r.channel == 0x15 && r.status == 0x24 && r.structure_length == 8 && r.host_protocol == 1);
+    CHECK(memcmp(r.address, BYTES(10, 0, 0, 7), 4) == 0 && r.port == 50000);
+    CHECK(memcmp(r.crd, BYTES(0x04, 0x05, 0x11, 0x0A), 4) == 0);
+    r = knx_connect_response(LENT(0x15, 0x00, 0x08, 0x01, 0x0A, 0x00, 0x00, 0x07, 0xC3, 0x50, 0x04, 0x05, 0x11));
+    CHECK(r.number == 1 && r.channel == 0 && r.port == 0 && memcmp(r.crd, BYTES(0, 0, 0, 0), 4) == 0);
+    r = knx_connect_response(LENT(0x15, 0x00, 0x09, 0x01, 0x0A, 0x00, 0x00, 0x07, 0xC3, 0x50, 0x04, 0x05, 0x11, 0x0A));
+    CHECK(r.number == 2 && r.channel == 0 && r.host_protocol == 0);
+}
+
+static int ldata_refused(KnxLData l, unsigned number) {
+    return l.number == number && l.start == 0 && l.end == 0 && l.source == 0 && l.destination == 0 && l.apci_code == 0 &&
+           l.message_code == 0 && l.control_1 == 0 && l.control_2 == 0 && l.npdu_length == 0 && l.tpci_kind == 0 &&
+           l.tpci_sequence == 0 && l.apci_named == 0 && l.six_bit == 0;
+}
+
+static void cemis(void) {
+    /* group write, data 2A, behind two bytes of additional information */
+    KnxLData l = knx_cemi_ldata(LENT(0x29, 0x02, 0xAA, 0xBB, 0x94, 0xE0, 0x11, 0x05, 0x08, 0x03, 0x03, 0x00, 0x80, 0x2A));
+    CHECK(l.number == 0 && l.message_code == 0x29 && l.control_1 == 0x94 && l.control_2 == 0xE0);
+    CHECK(l.source == 0x1105 && l.destination == 0x0803 && l.npdu_length == 3);
+    CHECK(l.tpci_kind == 0 && l.tpci_sequence == 0 && l.apci_named == 1 && l.apci_code == 0x080 && l.six_bit == 0);
+    CHECK(l.start == 13 && l.end == 14);
+    /* the same with L = 4, and L = 1 with a six-bit 1 */
+    CHECK(ldata_refused(knx_cemi_ldata(LENT(0x29, 0x00, 0x94, 0xE0, 0x11, 0x05, 0x08, 0x03, 0x04, 0x00, 0x80, 0x2A)), 2));
+    CHECK(ldata_refused(knx_cemi_ldata(LENT(0x29, 0x00, 0x94, 0xE0, 0x11, 0x05, 0x08, 0x03, 0x01, 0x00, 0x81)), 2));
+    /* the same with L = 2: group write, no data, six-bit 1 */
+    l = knx_cemi_ldata(LENT(0x11, 0x00, 0x94, 0xE0, 0x11, 0x05, 0x08, 0x03, 0x02, 0x00, 0x81));
+    CHECK(l.number == 0 && l.message_code == 0x11 && l.apci_code == 0x080 && l.six_bit == 1 && l.start == 11 && l.end == 11);
+    /* APCI bytes 02 C0, and a numbered data packet with sequence 5 and code 0x100 */
+    l = knx_cemi_ldata(LENT(0x2E, 0x00, 0x94, 0xE0, 0x11, 0x05, 0x08, 0x03, 0x02, 0x02, 0xC0));
+    CHECK(l.number == 0 && l.apci_named == 0 && l.apci_code == 0x2C0 && l.message_code == 0x2E);
+    l = knx_cemi_ldata(LENT(0x29, 0x00, 0x94, 0x60, 0x11, 0x05, 0x11, 0x03, 0x02, 0x55, 0x3F));
+    CHECK(l.number == 0 && l.tpci_kind == 1 && l.tpci_sequence == 5 && l.apci_named == 1 && l.apci_code == 0x100 && l.six_bit == 63);
+    /* a control packet: data from 8 on, no APCI */
+    l = knx_cemi_ldata(LENT(0x29, 0x00, 0x94, 0x60, 0x11, 0x05, 0x11, 0x03, 0x01, 0xC6, 0xFF));
+    CHECK(l.number == 0 && l.tpci_kind == 3 && l.tpci_sequence == 1 && l.apci_named == 0 && l.apci_code == 0 && l.six_bit == 0);
+    CHECK(l.start == 10 && l.end == 10);
+    CHECK(ldata_refused(knx_cemi_ldata(LENT(0x29)), 1));
+    CHECK(ldata_refused(knx_cemi_ldata(LENT(0x99, 0x00)), 6));
+    CHECK(ldata_refused(knx_cemi_ldata(LENT(0x2D, 0x00, 0x94)), 6));
+    CHECK(ldata_refused(knx_cemi_ldata(LENT(0x29, 0x03, 0xAA, 0xBB)), 2));
+    CHECK(ldata_refused(knx_cemi_ldata(LENT(0x29, 0x00, 0x94, 0xE0, 0x11, 0x05, 0x08, 0x03, 0x01, 0x00)), 1));
+}
+
+/* ---- building */
+
+static int wrote(KnxWritten w, const uint8_t *bytes, size_t n) { return w.number == 0 && w.count == n && holds(bytes, n); }
+
+static int refused(KnxWritten w, unsigned number) { return w.number == number && w.count == 0 && untouched(); }
+
+static const KnxEndpoint control = {.address = {192, 168, 1, 10}, .port = 3671};
+static const KnxEndpoint data = {.address = {10, 0, 0, 7}, .port = 50000};
+
+/* Too large for an L_Data frame from 254 bytes on, for a tunnelling request from 65526 on. */
+static const uint8_t large[LONG];
+
+static void ldatas(void) {
+    fill();
+    CHECK(wrote(knx_ldata_build(0xBC, 0xD0, 0x1234, 0x5678, 0x54, 0x3C0, 0x2A, LENT(1, 2, 3), out, LONG),
+                LENT(0xBC, 0xD0, 0x12, 0x34, 0x56, 0x78, 0x05, 0x57, 0xEA, 1, 2, 3)));
+    fill();
+    CHECK(wrote(knx_ldata_build(0x94, 0xE0, 0x1105, 0x0803, 0x00, 0x080, 0, LENT(0x2A), out, 10),
+                LENT(0x94, 0xE0, 0x11, 0x05, 0x08, 0x03, 0x03, 0x00, 0x80, 0x2A)));
+    fill();
+    CHECK(refused(knx_ldata_build(0x94, 0xE0, 0x1105, 0x0803, 0x00, 0x080, 0, LENT(0x2A), out, 9), 1));
+    CHECK(refused(knx_ldata_build(0x94, 0xE0, 0x1105, 0x0803, 0x80, 0x080, 0, LENT(0x2A), out, 9), 13));
+    CHECK(refused(knx_ldata_build(0x94, 0xE0, 0x1105, 0x0803, 0x00, 0x400, 0, LENT(0x2A), out, 9), 13));
+    CHECK(refused(knx_ldata_build(0x94, 0xE0, 0x1105, 0x0803, 0x00, 0x081, 0, LENT(0x2A), out, 9), 13));
+    CHECK(refused(knx_ldata_build(0x94, 0xE0, 0x1105, 0x0803, 0x00, 0x080, 64, LENT(0x2A), out, 9), 13));
+    CHECK(refused(knx_ldata_build(0x94, 0xE0, 0x1105, 0x0803, 0x00, 0x080, 0, large, 254, out, 9), 5));
+    CHECK(refused(knx_ldata_build(0x94, 0xE0, 0x1105, 0x0803, 0x00, 0x080, 0, large, LONG, out, 9), 5));
+}
+
+static void requests(void) {
+    fill();
+    CHECK(wrote(knx_connect_request(control, data, out, 26),
+                LENT(0x06, 0x10, 0x02, 0x05, 0x00, 0x1A, 0x08, 0x01, 192, 168, 1, 10, 0x0E, 0x57, 0x08, 0x01, 10, 0, 0, 7,
+                     0xC3, 0x50, 0x04, 0x04, 0x02, 0x00)));
+    fill();
+    CHECK(refused(knx_connect_request(control, data, out, 25), 1));
+    CHECK(wrote(knx_connectionstate_request(0x15, control, out, 16),
+                LENT(0x06, 0x10, 0x02, 0x07, 0x00, 0x10, 0x15, 0x00, 0x08, 0x01, 192, 168, 1, 10, 0x0E, 0x57)));
+    fill();
+    CHECK(refused(knx_connectionstate_request(0x15, control, out, 15), 1));
+    CHECK(wrote(knx_connectionstate_request(0x2A, data, out, LONG),
+                LENT(0x06, 0x10, 0x02, 0x07, 0x00, 0x10, 0x2A, 0x00, 0x08, 0x01, 10, 0, 0, 7, 0xC3, 0x50)));
+    fill();
+    CHECK(wrote(knx_disconnect_request(0x15, control, out, 16),
+                LENT(0x06, 0x10, 0x02, 0x09, 0x00, 0x10, 0x15, 0x00, 0x08, 0x01, 192, 168, 1, 10, 0x0E, 0x57)));
+    fill();
+    CHECK(refused(knx_disconnect_request(0x15, control, out, 15), 1));
+    CHECK(wrote(knx_disconnect_request(0x2A, data, out, LONG),
+                LENT(0x06, 0x10, 0x02, 0x09, 0x00, 0x10, 0x2A, 0x00, 0x08, 0x01, 10, 0, 0, 7, 0xC3, 0x50)));
+}
+
+static void tunnelled(void) {
+    fill();
+    CHECK(wrote(knx_tunneling_request(0x15, 0x07, LENT(0x29, 0x00, 0xBC), out, 13),
+                LENT(0x06, 0x10, 0x04, 0x20, 0x00, 0x0D, 0x04, 0x15, 0x07, 0x00, 0x29, 0x00, 0xBC)));
+    fill();
+    CHECK(refused(knx_tunneling_request(0x15, 0x07, LENT(0x29, 0x00, 0xBC), out, 12), 1));
+    CHECK(refused(knx_tunneling_request(0x15, 0x07, large, 65526, out, 65535), 1));
+    CHECK(refused(knx_tunneling_request(0x15, 0x07, large, 65526, out, LONG), 5));
+    CHECK(wrote(knx_tunneling_ack(0x15, 0x07, 0x29, out, 11),
+                LENT(0x06, 0x10, 0x04, 0x21, 0x00, 0x0B, 0x04, 0x15, 0x07, 0x00, 0x29)));
+    fill();
+    CHECK(refused(knx_tunneling_ack(0x15, 0x07, 0x29, out, 10), 1));
+    CHECK(wrote(knx_tunneling_ack(0x2A, 0x08, 0x01, out, LONG),
+                LENT(0x06, 0x10, 0x04, 0x21, 0x00, 0x0B, 0x04, 0x2A, 0x08, 0x00, 0x01)));
+}
+
+/* ---- the table: 40 bytes of image, and others behind it that no call may touch */
+
+static uint8_t image[LONG];
+
+/* The image with these first places, the rest free, and EE up to the end. */
+static void set_image(const uint8_t *bytes, size_t n) {
+    memset(image, 0xEE, LONG);
+    memset(image, 0, 40);
+    memcpy(image, bytes, n);
+}
+
+static int image_is(const uint8_t *bytes, size_t n) {
+    for (size_t i = 0; i < 40; i++)
+        if (image[i] != (i < n ? bytes[i] : 0)) return 0;
+    for (size_t i = 40; i < LONG; i++)
+        if (image[i] != 0xEE) return 0;
+    return 1;
+}
+
+static int called(KnxCalled c, unsigned said, size_t start, size_t end, size_t written) {
+    return c.number == 0 && c.said == said && c.start == start && c.end == end && c.written == written;
+}
+
+static int call_refused(KnxCalled c, unsigned number) {
+    return c.number == number && c.said == 0 && c.start == 0 && c.end == 0 && c.written == 0;
+}
+
+static void opening(void) {
+    memset(image, 0xEE, LONG);
+    KnxWritten w = knx_table_empty(image, 39);
+    CHECK(w.number == 1 && w.count == 0 && image[0] == 0xEE && image[39] == 0xEE);
+    w = knx_table_empty(image, LONG);
+    CHECK(w.number == 0 && w.count == 40 && image_is(BYTES(0), 0));
+    CHECK(call_refused(knx_table_open(image, 39, 21), 1) && image_is(BYTES(0), 0));
+    CHECK(called(knx_table_open(image, LONG, 21), KNX_SAID_NOTHING, 0, 0, 0) && image_is(LENT(1, 21, 0, 0, 0)));
+    CHECK(call_refused(knx_table_open(image, 42, 21), 7));
+    CHECK(called(knx_table_open(image, 40, 40), KNX_SAID_NOTHING, 0, 0, 0) && image_is(LENT(1, 21, 0, 0, 0, 1, 40, 0, 0, 0)));
+    CHECK(called(knx_table_close(image, LONG, 21), KNX_SAID_NOTHING, 0, 0, 0) && image_is(LENT(0, 0, 0, 0, 0, 1, 40, 0, 0, 0)));
+    CHECK(call_refused(knx_table_close(image, 42, 21), 9) && call_refused(knx_table_close(image, 39, 40), 1));
+    for (unsigned id = 1; id <= 7; id++) CHECK(knx_table_open(image, 42, (uint8_t)id).number == 0);
+    CHECK(call_refused(knx_table_open(image, 42, 8), 8) && call_refused(knx_table_open(image, 42, 40), 7));
+}
+
+static void waiting(void) {
+    set_image(LENT(1, 21, 3, 200, 0));
+    fill();
+    CHECK(call_refused(knx_table_timeout(image, 42, 21), 11) && call_refused(knx_table_timeout(image, 42, 22), 9));
+    CHECK(call_refused(knx_table_timeout(image, 39, 21), 1));
+    CHECK(call_refused(knx_table_send(image, 39, 21, LENT(0x29, 0x00, 0xBC), out, 13), 1));
+    CHECK(call_refused(knx_table_send(image, 42, 22, LENT(0x29, 0x00, 0xBC), out, 13), 9));
+    CHECK(call_refused(knx_table_send(image, 42, 21, LENT(0x29, 0x00, 0xBC), out, 12), 1));
+    CHECK(call_refused(knx_table_send(image, 42, 21, large, 65526, out, 65535), 1));
+    CHECK(call_refused(knx_table_send(image, 42, 21, large, 65526, out, LONG), 5));
+    CHECK(untouched() && image_is(LENT(1, 21, 3, 200, 0)));
+    CHECK(called(knx_table_send(image, LONG, 21, LENT(0x29, 0x00, 0xBC), out, 13), KNX_SAID_NOTHING, 0, 0, 13));
+    CHECK(holds(LENT(0x06, 0x10, 0x04, 0x20, 0x00, 0x0D, 0x04, 21, 200, 0x00, 0x29, 0x00, 0xBC)) && image_is(LENT(1, 21, 3, 200, 1)));
+    fill();
+    CHECK(call_refused(knx_table_send(image, 42, 21, LENT(0x29, 0x00, 0xBC), out, 13), 10) && untouched());
+    CHECK(called(knx_table_timeout(image, LONG, 21), KNX_SAID_REPEAT, 0, 0, 0) && image_is(LENT(1, 21, 3, 200, 2)));
+    CHECK(called(knx_table_timeout(image, 42, 21), KNX_SAID_GIVE_UP, 0, 0, 0) && image_is(BYTES(0), 0));
+}
+
+static void datagrams(void) {
+    set_image(LENT(1, 21, 255, 9, 1));
+    fill();
+    /* request 255 with r = 255: deliver, r = 0; then a duplicate; then out of order */
+    CHECK(called(knx_table_datagram(image, 42, LENT(0x06, 0x10, 0x04, 0x20, 0x00, 0x0C, 0x04, 21, 255, 0x00, 0x29, 0x00, 0xEE), out, 11),
+                 KNX_SAID_DELIVER, 10, 12, 11));
+    CHECK(holds(LENT(0x06, 0x10, 0x04, 0x21, 0x00, 0x0B, 0x04, 21, 255, 0x00, 0x00)) && image_is(LENT(1, 21, 0, 9, 1)));
+    fill();
+    CHECK(called(knx_table_datagram(image, 42, LENT(0x06, 0x10, 0x04, 0x20, 0x00, 0x0C, 0x04, 21, 255, 0x00, 0x29, 0x00), out, 11),
+                 KNX_SAID_DUPLICATE, 0, 0, 11));
+    CHECK(holds(LENT(0x06, 0x10, 0x04, 0x21, 0x00, 0x0B, 0x04, 21, 255, 0x00, 0x00)) && image_is(LENT(1, 21, 0, 9, 1)));
+    fill();
+    CHECK(called(knx_table_datagram(image, 42, LENT(0x06, 0x10, 0x04, 0x20, 0x00, 0x0A, 0x04, 21, 7, 0x00), out, 0), KNX_SAID_OUT_OF_ORDER, 0, 0, 0));
+    CHECK(call_refused(knx_table_datagram(image, 42, LENT(0x06, 0x10, 0x04, 0x20, 0x00, 0x0A, 0x04, 21, 0, 0x00), out, 10), 1));
+    /* acknowledgements: of another number, of s, of s when idle */
+    CHECK(called(knx_table_datagram(image, 42, LENT(0x06, 0x10, 0x04, 0x21, 0x00, 0x0B, 0x04, 21, 8, 0x00, 0x00), out, 0), KNX_SAID_IGNORED, 0, 0, 0));
+    CHECK(called(knx_table_datagram(image, 42, LENT(0x06, 0x10, 0x04, 0x21, 0x00, 0x0B, 0x04, 21, 9, 0x00, 0x00), out, 0), KNX_SAID_SENT, 0, 0, 0));
+    CHECK(image_is(LENT(1, 21, 0, 10, 0)) && untouched());
+    /* refusals: image, frame, service, body, channel */
+    CHECK(call_refused(knx_table_datagram(image, 39, LENT(0x06, 0x10, 0x04, 0x20, 0x00, 0x0A, 0x04, 21, 0, 0x00), out, 11), 1));
+    CHECK(call_refused(knx_table_datagram(image, 42, LENT(0x05, 0x20, 0x04, 0x20, 0x00, 0x06), out, 11), 2));
+    CHECK(call_refused(knx_table_datagram(image, 42, LENT(0x06, 0x10, 0x02, 0x05, 0x00, 0x06), out, 11), 12));
+    CHECK(call_refused(knx_table_datagram(image, 42, LENT(0x06, 0x10, 0x04, 0x20, 0x00, 0x06), out, 11), 1));
+    CHECK(call_refused(knx_table_datagram(image, 42, LENT(0x06, 0x10, 0x04, 0x20, 0x00, 0x0A, 0x04, 22, 0, 0x00), out, 11), 9));
+    CHECK(image_is(LENT(1, 21, 0, 10, 0)) && untouched());
+}
+
+/* Bytes that no call writes: a held byte other than 1, a waiting byte above 2, a free place with contents. */
+static void odd_images(void) {
+    set_image(LENT(0, 21, 1, 2, 1, 7, 21, 3, 4, 9));
+    CHECK(call_refused(knx_table_open(image, 42, 21), 7) && image_is(LENT(0, 21, 1, 2, 1, 7, 21, 3, 4, 9)));
+    CHECK(knx_table_open(image, 42, 22).number == 0 && image_is(LENT(1, 22, 0, 0, 0, 1, 21, 3, 4, 2)));
+    CHECK(called(knx_table_timeout(image, 42, 21), KNX_SAID_GIVE_UP, 0, 0, 0) && image_is(LENT(1, 22, 0, 0, 0)));
+    /* an id that stands twice means its first place */
+    set_image(LENT(1, 5, 1, 1, 0, 1, 5, 2, 2, 0));
+    CHECK(knx_table_close(image, 42, 5).number == 0 && image_is(LENT(0, 0, 0, 0, 0, 1, 5, 2, 2, 0)));
+}
+
+int main(void) {
+    frames();
+    hpais();
+    connect_responses();
+    cemis();
+    ldatas();
+    requests();
+    tunnelled();
+    opening();
+    waiting();
+    datagrams();
+    odd_images();
+    printf("C: %d checks, %d failed\n", checks, failures);
+    return failures != 0;
+}

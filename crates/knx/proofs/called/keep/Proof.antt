@@ -1,0 +1,25 @@
+-- What pack leaves of the image is what is kept. Assumes nothing.
+use borrow.Author.Tests.{eq-eqb, ne-eqb}
+use borrow.Author.Needs.{needs}
+use Rattle.knx.proofs.called.keep.Statement.{statement}
+use Rattle.knx.proofs.called.keep.Tie as tie
+
+number-requires : tie.Need-number-requires
+number-requires c κs = search needs
+
+pack-requires : tie.Need-pack-requires
+pack-requires c κs = search needs
+
+same-length : tie.Need-same-length
+same-length c = search needs
+
+returns : tie.Need-returns
+returns c =
+    let done = eq-eqb _ _ (c .before .before .before .before .if1 .taken) in
+    (rw (c .before .before .before .before .before .before .number .ensures), simp done (c .before .before .pack .ensures .1))
+
+returns-2 : tie.Need-returns-2
+returns-2 c = (rw (c .before .before .number .ensures), simp (ne-eqb _ _ (c .if1 .left)))
+
+pub keep-spec : {M : Type 1} → statement M
+keep-spec = tie.close (tie.spec number-requires pack-requires same-length returns returns-2)

@@ -1,0 +1,10 @@
+-- What `knx` promises, in reading order: definitions, laws, demand 3.
+pub mod Reading
+pub mod CemiLData
+pub mod Building
+pub mod Called
+pub mod ReadingLaws
+pub mod CemiLDataLaws
+pub mod BuildingLaws
+pub mod CalledLaws
+pub mod Runs

@@ -1,0 +1,114 @@
+// The calls on a table of eight tunnels, over the byte image that the host lends.
+ghost use Rattle.knx.specs.Called.{KeepPromise, EmptyPromise, RefusedPromise, OpenPromise, ClosePromise, TimeoutPromise, SendPromise, DatagramPromise};
+use crate::building;
+use crate::building::KnxWritten;
+use tunnel_datagram::Heard;
+use tunnel_table::Called;
+use tunnel_table::Table;
+use wire::Refusal;
+
+// A number of 01 and, beside 0, what is said, the view and the count of bytes written to the output.
+#[repr(C)]
+pub struct KnxCalled {
+    pub start: usize,
+    pub end: usize,
+    pub written: usize,
+    pub said: u8,
+    pub number: u8,
+}
+
+#[no_mangle]
+pub extern "C" fn knx_table_empty(image: &mut [u8]) -> KnxWritten
+    ensures { λ r. ⌜ EmptyPromise (now (image .entry)) r (now (image .exit)) ⌝ }
+{
+    let table = Table::empty();
+    let places = table.places;
+    building::written(tunnel_image::pack(places, image))
+}
+
+#[no_mangle]
+pub extern "C" fn knx_table_open(image: &mut [u8], id: u8) -> KnxCalled
+    ensures { λ r. ⌜ OpenPromise (now (image .entry)) id r (now (image .exit)) ⌝ }
+{
+    if image.len() < tunnel_image::SIZE {
+        return refused(Refusal::BufferTooSmall);
+    }
+    keep(tunnel_image::unpack(image).open(id), image)
+}
+
+#[no_mangle]
+pub extern "C" fn knx_table_close(image: &mut [u8], id: u8) -> KnxCalled
+    ensures { λ r. ⌜ ClosePromise (now (image .entry)) id r (now (image .exit)) ⌝ }
+{
+    if image.len() < tunnel_image::SIZE {
+        return refused(Refusal::BufferTooSmall);
+    }
+    keep(tunnel_image::unpack(image).close(id), image)
+}
+
+#[no_mangle]
+pub extern "C" fn knx_table_timeout(image: &mut [u8], id: u8) -> KnxCalled
+    ensures { λ r. ⌜ TimeoutPromise (now (image .entry)) id r (now (image .exit)) ⌝ }
+{
+    if image.len() < tunnel_image::SIZE {
+        return refused(Refusal::BufferTooSmall);
+    }
+    keep(tunnel_image::unpack(image).timeout(id), image)
+}
+
+#[no_mangle]
+pub extern "C" fn knx_table_send(image: &mut [u8], id: u8, cemi: &[u8], out: &mut [u8]) -> KnxCalled
+    ensures { λ r. ⌜ SendPromise (now (image .entry)) id (now (cemi .entry)) (now (out .entry)) r (now (image .exit)) (now (out .exit)) ⌝ }
+{
+    if image.len() < tunnel_image::SIZE {
+        return refused(Refusal::BufferTooSmall);
+    }
+    keep(tunnel_image::unpack(image).send(id, cemi, out), image)
+}
+
+// A datagram that is refused by its bytes alone needs no table.
+#[no_mangle]
+pub extern "C" fn knx_table_datagram(image: &mut [u8], bytes: &[u8], out: &mut [u8]) -> KnxCalled
+    ensures { λ r. ⌜ DatagramPromise (now (image .entry)) (now (bytes .entry)) (now (out .entry)) r (now (image .exit)) (now (out .exit)) ⌝ }
+{
+    if image.len() < tunnel_image::SIZE {
+        return refused(Refusal::BufferTooSmall);
+    }
+    let heard = tunnel_datagram::hear(bytes);
+    if let Heard::Refused(why) = heard {
+        return refused(why);
+    }
+    keep(tunnel_image::unpack(image).heard(heard, out), image)
+}
+
+// What a call on the table gave, as numbers; the table is packed again unless the call was refused.
+fn keep(called: Called, image: &mut [u8]) -> KnxCalled
+    ensures { λ r. ⌜ KeepPromise called (now (image .entry)) r (now (image .exit)) ⌝ }
+{
+    let said = called.said;
+    let table = called.table;
+    let places = table.places;
+    let answer = KnxCalled {
+        start: called.start,
+        end: called.end,
+        written: called.written,
+        said: said.number(),
+        number: called.number,
+    };
+    if called.number == 0 {
+        tunnel_image::pack(places, image);
+    }
+    answer
+}
+
+fn refused(why: Refusal) -> KnxCalled
+    ensures { λ r. ⌜ RefusedPromise why r ⌝ }
+{
+    KnxCalled {
+        start: 0,
+        end: 0,
+        written: 0,
+        said: 0,
+        number: why.number(),
+    }
+}

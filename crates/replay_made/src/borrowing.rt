@@ -1,0 +1,61 @@
+// Records that hold their slice and that no parse made: where the body and the data stand in what they hold.
+use crate::frames;
+use address::IndividualAddress;
+use control::ControlField1;
+use control::ControlField2;
+use frame::FrameAnswer;
+use ldata::LDataAnswer;
+use ldata::LDataFields;
+use replay::Told;
+use wire::View;
+
+// The refusal that the record holds, 0 for none, then the fields and the bytes that it holds.
+pub(crate) fn body(args: &[u8]) -> Told {
+    let fields = frames::fields_at(wire::part(args, 1, args.len()));
+    let data = wire::part(args, 6, args.len());
+    let refused = wire::byte_at(args, 0);
+    if refused == 0 {
+        return view(borrowed::body_view(data, FrameAnswer::Frame(fields)), data);
+    }
+    let answer = FrameAnswer::Refused(variants::refusal_of(refused));
+    view(borrowed::body_view(data, answer), data)
+}
+
+// The refusal that the record holds, 0 for none, then L, kind, sequence, and the data that it holds.
+pub(crate) fn data(args: &[u8]) -> Told {
+    let data = wire::part(args, 4, args.len());
+    let refused = wire::byte_at(args, 0);
+    if refused == 0 {
+        return view(
+            borrowed::data_view(data, LDataAnswer::Frame(fields(args))),
+            data,
+        );
+    }
+    let answer = LDataAnswer::Refused(variants::refusal_of(refused));
+    view(borrowed::data_view(data, answer), data)
+}
+
+fn fields(args: &[u8]) -> LDataFields {
+    let ctrl1 = ControlField1::from_u8(0x94);
+    let ctrl2 = ControlField2::from_u8(0xE0);
+    let source = IndividualAddress::from_u16(0x1105);
+    let tpci = variants::tpci_of(wire::byte_at(args, 2), wire::byte_at(args, 3));
+    let apci = variants::apci_of(0, 0);
+    LDataFields {
+        ctrl1,
+        ctrl2,
+        source,
+        destination_raw: 0x0803,
+        npdu_length: wire::byte_at(args, 1),
+        tpci,
+        apci,
+    }
+}
+
+// Where a part stands, and its remainder.
+fn view(v: View, data: &[u8]) -> Told {
+    let rest = replay::remainder(wire::part(data, v.start, v.end));
+    let mut t = replay::few(3, [v.start, v.end, rest, 0]);
+    t.number = v.number;
+    t
+}

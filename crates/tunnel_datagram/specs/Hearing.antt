@@ -1,0 +1,70 @@
+-- 01, "Datagram": frame refusals, then 12 unless the service is 0x0420 or 0x0421, then body refusals. Reserved bytes and the connection header's length byte are not looked at. Assumes nothing.
+use Prim.Native.Nat.{ℕ, _+_}
+use mathlib.Core.Path.{_≡_}
+use mathlib.Core.Bool.{cond}
+use mathlib.Core.List.{List, [], _∷_}
+use lib.ListN.{length, getD}
+use lib.Dec.{eqb}
+use Rattle.wire.specs.Told.{Told, done, refused, verdict}
+use Rattle.wire.specs.Layout.{get}
+use Rattle.wire.specs.Parts.{partOf}
+use Rattle.wire.specs.declared.refusals.Refusal.the-variants.{NotForTunnels}
+use Rattle.wire.specs.declared.refusals.Verdict.{Verdict}
+use Rattle.wire.specs.declared.refusals.Verdict.the-variants.{Accept, Refuse}
+use Rattle.constants.specs.Constants.{headerSize}
+use Rattle.constants.specs.Services.{codeOf}
+use Rattle.constants.specs.declared.services.ServiceType.the-variants.{TunnellingRequest, TunnellingAck}
+use Rattle.header.specs.Header.{fields, serviceIn, totalIn}
+use Rattle.frame.specs.Frame as Frame
+use Rattle.tunnelling.specs.Connection as Connection
+use Rattle.tunnelling.specs.Request as TunnelingRequest
+use Rattle.tunnelling.specs.Ack as TunnelingAck
+use Rattle.tunnel_datagram.specs.declared.hearing.Heard.{Heard}
+use Rattle.tunnel_datagram.specs.declared.hearing.Heard.the-variants.{Request, Ack, Refused}
+
+-- the cEMI frame of a request stands behind the header and what its body has before it: at 10 of the datagram
+abbrev pub cemiStart : ℕ
+cemiStart = headerSize + TunnelingRequest.cemiAt
+
+-- what is heard: 1 for a request, with the view of its cEMI, 2 for an acknowledgement; channel, number, status
+abbrev pub told : Heard → Told
+told (Request channel n end) = record { number = 0; values = 1 ∷ channel ∷ n ∷ 0 ∷ []; start = cemiStart; end = end }
+told (Ack channel n status) = done (2 ∷ channel ∷ n ∷ status ∷ [])
+told (Refused e) = refused 4 e
+
+abbrev pub heardOr : Verdict → Heard → Heard
+heardOr Accept h = h
+heardOr (Refuse e) h = Refused e
+
+-- of what a connection header holds: channel, then number
+abbrev pub channelIn : List ℕ → ℕ
+channelIn valuesIn = getD valuesIn 0 0
+
+abbrev pub numberIn : List ℕ → ℕ
+numberIn valuesIn = getD valuesIn 1 0
+
+abbrev pub requestOf : List ℕ → ℕ → Heard
+requestOf valuesIn end = Request (channelIn valuesIn) (numberIn valuesIn) end
+
+abbrev pub ackOf : List ℕ → Heard
+ackOf valuesIn = Ack (channelIn valuesIn) (numberIn valuesIn) (getD valuesIn 2 0)
+
+-- a request's body needs 4 bytes, an acknowledgement's 5
+abbrev pub requestIn : List ℕ → ℕ → Heard
+requestIn body end = heardOr (verdict (Connection.checks (length body))) (requestOf (Connection.valuesIn (get Connection.fields 0 body)) end)
+
+abbrev pub ackIn : List ℕ → Heard
+ackIn body = heardOr (verdict (TunnelingAck.checks (length body))) (ackOf (TunnelingAck.valuesIn (get TunnelingAck.fields 0 body)))
+
+-- in an accepted frame of this service, total length and body
+abbrev pub inFrame : ℕ → ℕ → List ℕ → Heard
+inFrame service total body =
+    cond (eqb service (codeOf TunnellingRequest)) (requestIn body total)
+    (cond (eqb service (codeOf TunnellingAck)) (ackIn body) (Refused NotForTunnels))
+
+abbrev pub heardBy01 : List ℕ → Heard
+heardBy01 s =
+    heardOr (verdict (Frame.checks (length s) (get fields 0 s))) (inFrame (serviceIn (get fields 0 s)) (totalIn (get fields 0 s)) (partOf s 6 (totalIn (get fields 0 s))))
+
+abbrev pub HearPromise : List ℕ → Heard → Type 0
+HearPromise s r = told r ≡ told (heardBy01 s)

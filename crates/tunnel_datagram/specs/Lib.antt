@@ -1,0 +1,4 @@
+-- What `tunnel_datagram` promises, in reading order: definitions, then laws.
+pub mod Hearing
+pub mod HearingLaws
+pub mod WrittenHeard

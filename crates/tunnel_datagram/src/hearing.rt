@@ -1,0 +1,79 @@
+// A datagram is a request or an acknowledgement of a channel, or it is refused.
+ghost use mathlib.Core.Path.{_≡_};
+ghost use Rattle.wire.specs.Parts.{partOf};
+ghost use Rattle.tunnel_datagram.specs.Hearing.{inFrame, requestIn, ackIn, HearPromise};
+ghost use Rattle.constants.specs.Services.{codeOf};
+use constants::ServiceType;
+use frame::FrameAnswer;
+use frame::FrameFields;
+use header::KnxnetIpHeader;
+use tunnelling::TunnelingAck;
+use tunnelling::TunnelingAckAnswer;
+use tunnelling::TunnelingRequest;
+use tunnelling::TunnelingRequestAnswer;
+use wire::Refusal;
+
+// Where the cEMI frame of a request starts: behind the header and the connection header.
+pub const CEMI_START: usize = 10;
+
+// A request's cEMI frame runs from there to the end of its frame.
+pub enum Heard {
+    Request { channel: u8, number: u8, end: usize },
+    Ack { channel: u8, number: u8, status: u8 },
+    Refused(Refusal),
+}
+
+pub fn hear(bytes: &[u8]) -> Heard
+    ensures { λ r. ⌜ HearPromise (now (bytes .entry)) r ⌝ }
+{
+    match FrameFields::parse(bytes) {
+        FrameAnswer::Frame(frame) => in_frame(frame, bytes),
+        FrameAnswer::Refused(why) => Heard::Refused(why),
+    }
+}
+
+// The frame was accepted, so its body is taken without its checks.
+fn in_frame(frame: FrameFields, bytes: &[u8]) -> Heard
+    ensures { λ r. ⌜ r ≡ inFrame (codeOf (frame .header .«service_type»)) (frame .header .«total_length») (partOf (now (bytes .entry)) 6 (frame .header .«total_length»)) ⌝ }
+{
+    let header = frame.header;
+    let service_type = header.service_type;
+    let end = header.total_length as usize;
+    let body = wire::part(bytes, KnxnetIpHeader::SIZE, end);
+    match service_type {
+        ServiceType::TunnellingRequest => in_request(body, end),
+        ServiceType::TunnellingAck => in_ack(body),
+        ServiceType::ConnectRequest => Heard::Refused(Refusal::NotForTunnels),
+        ServiceType::ConnectResponse => Heard::Refused(Refusal::NotForTunnels),
+        ServiceType::ConnectionstateRequest => Heard::Refused(Refusal::NotForTunnels),
+        ServiceType::ConnectionstateResponse => Heard::Refused(Refusal::NotForTunnels),
+        ServiceType::DisconnectRequest => Heard::Refused(Refusal::NotForTunnels),
+        ServiceType::DisconnectResponse => Heard::Refused(Refusal::NotForTunnels),
+    }
+}
+
+fn in_request(body: &[u8], end: usize) -> Heard
+    ensures { λ r. ⌜ r ≡ requestIn (now (body .entry)) end ⌝ }
+{
+    match TunnelingRequest::parse(body) {
+        TunnelingRequestAnswer::Request(request) => Heard::Request {
+            channel: request.connection_header.channel_id,
+            number: request.connection_header.sequence_counter,
+            end,
+        },
+        TunnelingRequestAnswer::Refused(why) => Heard::Refused(why),
+    }
+}
+
+fn in_ack(body: &[u8]) -> Heard
+    ensures { λ r. ⌜ r ≡ ackIn (now (body .entry)) ⌝ }
+{
+    match TunnelingAck::parse(body) {
+        TunnelingAckAnswer::Ack(ack) => Heard::Ack {
+            channel: ack.connection_header.channel_id,
+            number: ack.connection_header.sequence_counter,
+            status: ack.status,
+        },
+        TunnelingAckAnswer::Refused(why) => Heard::Refused(why),
+    }
+}

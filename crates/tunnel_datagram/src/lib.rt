@@ -1,0 +1,6 @@
+// What a datagram says to a tunnel, from its bytes alone.
+mod hearing;
+
+pub use hearing::CEMI_START;
+pub use hearing::Heard;
+pub use hearing::hear;

@@ -1,0 +1,94 @@
+-- What the calls on the table promise: 01's table of eight, made of the code's own places. Assumes nothing.
+use Prim.Native.Nat.{ℕ}
+use mathlib.Core.Path.{_≡_}
+use mathlib.Core.List.{List, [], _∷_}
+use mathlib.Core.Option.{Option, none, some}
+use lib.ListN.{length, set}
+use Rattle.wire.specs.Told.{Told, verdict}
+use Rattle.wire.specs.Writing.{onto, Writes}
+use Rattle.wire.specs.declared.refusals.Refusal.the-variants.{NotOpen}
+use Rattle.wire.specs.declared.refusals.Verdict.{Verdict}
+use Rattle.wire.specs.declared.refusals.Verdict.the-variants.{Accept, Refuse}
+use Rattle.wire.specs.declared.refusals.Written.{Written}
+use Rattle.tunnelling.specs.Ack as TunnelingAck
+use Rattle.tunnel_datagram.specs.declared.hearing.Heard.{Heard}
+use Rattle.tunnel_datagram.specs.declared.hearing.Heard.the-variants as Heard
+use Rattle.tunnel.specs.Rules.{arrivalOf, acknowledgedOf}
+use Rattle.tunnel.specs.declared.rules.Tunnel.{Tunnel}
+use Rattle.tunnel.specs.declared.rules.Said.{Said}
+use Rattle.tunnel_model.specs.Firsts.{firstOf, putFirst}
+use Rattle.tunnel_model.specs.Store.{step}
+use Rattle.tunnel_model.specs.Places.{holds, stateIn, placed}
+use Rattle.tunnel.specs.Numbers.{saidOf}
+use Rattle.tunnel_model.specs.Calls.{Call, Outcome, refuses}
+use Rattle.tunnel_model.specs.Lone.{After, ack, arrived, stepped}
+use Rattle.tunnel_model.specs.Table.{chan, storeOf, emptyOf}
+use Rattle.tunnel_table.specs.Places.{kind}
+use Rattle.tunnel_table.specs.declared.places.Hold.{Hold}
+use Rattle.tunnel_table.specs.declared.places.Hold.the-variants.{Held}
+use Rattle.tunnel_table.specs.declared.places.Place.{Place}
+use Rattle.tunnel_table.specs.declared.table.Table.{Table}
+use Rattle.tunnel_table.specs.declared.table.Called.{Called}
+use Rattle.tunnel_table.specs.declared.table.Reaction.{Reaction}
+
+abbrev pub told : Called → Told
+told r = record { number = r .number; values = saidOf (r .said) ∷ r .written ∷ []; start = r .start; end = r .end }
+
+-- what a call gave: the outcome with the output afterwards, and the places afterwards
+abbrev pub calledAs : Called → List ℕ → Outcome × List Place
+calledAs r out = ((told r, out), r .table .places)
+
+-- every call on the table is one step of 01's table of eight
+abbrev pub CallPromise : Table → Call → Called → List ℕ → Type 0
+CallPromise t c r out = calledAs r out ≡ step chan (storeOf kind) (t .places) c
+
+abbrev pub EmptyPromise : Table → Type 0
+EmptyPromise r = r .places ≡ emptyOf kind 8
+
+-- ---- the code's parts
+
+-- what a rule does to a channel's place: 9 where the channel is not open
+abbrev pub onAt : Option Tunnel → ℕ → (Tunnel → After) → List ℕ → List Place → Outcome × List Place
+onAt none b f out l = (refuses NotOpen out, l)
+onAt (some t) b f out l = (f t .0, putFirst (holds kind b) (placed kind b (f t .1)) l)
+
+abbrev pub on : ℕ → (Tunnel → After) → List ℕ → List Place → Outcome × List Place
+on b f out l = onAt (stateIn kind (firstOf (holds kind b) l)) b f out l
+
+abbrev pub requestRule : ℕ → ℕ → ℕ → List ℕ → Tunnel → After
+requestRule channel n end out t = arrived (arrivalOf t n) t channel n end out
+
+abbrev pub ackRule : ℕ → ℕ → List ℕ → Tunnel → After
+ackRule n status out t = stepped (acknowledgedOf t n status) out
+
+-- what was heard of a datagram: a request, an acknowledgement, or a refusal, which changes nothing
+abbrev pub heardOn : Heard → List ℕ → List Place → Outcome × List Place
+heardOn (Heard.Request channel n end) out l = on channel (requestRule channel n end out) out l
+heardOn (Heard.Ack channel n status) out l = on channel (ackRule n status out) out l
+heardOn (Heard.Refused e) out l = (refuses e out, l)
+
+abbrev pub HeardPromise : Table → Heard → List ℕ → Called → List ℕ → Type 0
+HeardPromise t h out r after = calledAs r after ≡ heardOn h out (t .places)
+
+abbrev pub AcknowledgementPromise : Table → ℕ → ℕ → ℕ → Called → Type 0
+AcknowledgementPromise t channel n status r = (out : List ℕ) → calledAs r out ≡ on channel (ackRule n status out) out (t .places)
+
+abbrev pub AckPromise : ℕ → ℕ → List ℕ → Written → List ℕ → Type 0
+AckPromise channel n out r after = Writes (TunnelingAck.buildChecks (length out)) (ack channel n) out r after
+
+-- an acknowledgement is written and the channel is put back, or there is no room for it
+abbrev pub reactionTold : Reaction → ℕ → Told
+reactionTold x n = record { number = 0; values = saidOf (x .said) ∷ n ∷ []; start = x .start; end = x .end }
+
+abbrev pub reacted : Verdict → Table → ℕ → ℕ → ℕ → Reaction → List ℕ → Outcome × List Place
+reacted Accept t i b n x out = ((reactionTold x (length (ack b n)), onto out (ack b n)), set (t .places) i (record { hold = Held b (x .tunnel) }))
+reacted (Refuse e) t i b n x out = (refuses e out, t .places)
+
+abbrev pub ReactPromise : Table → ℕ → ℕ → ℕ → Reaction → List ℕ → Called → List ℕ → Type 0
+ReactPromise t i b n x out r after = calledAs r after ≡ reacted (verdict (TunnelingAck.buildChecks (length out))) t i b n x out
+
+abbrev pub saying : Table → ℕ → Said → Called
+saying t n said = record { number = n; said = said; start = 0; end = 0; written = 0; table = t }
+
+abbrev pub putAt : Table → ℕ → Hold → Table
+putAt t i h = record { places = set (t .places) i (record { hold = h }) }
