@@ -54,6 +54,8 @@ use Rattle.connect.specs.declared.cri.ConnectionRequestInfo.{ConnectionRequestI
 use Rattle.connect.specs.declared.cri.ConnectionRequestInfoAnswer.{ConnectionRequestInfoAnswer}
 use Rattle.connect.specs.declared.request.ConnectRequest.{ConnectRequest}
 use Rattle.connect.specs.declared.response.ConnectResponseAnswer.{ConnectResponseAnswer}
+use Rattle.connect.specs.declared.channel.ConnectionStateRequest.{ConnectionStateRequest}
+use Rattle.connect.specs.declared.channel.DisconnectRequest.{DisconnectRequest}
 use Rattle.connect.specs.declared.channel.ConnectionStateAnswer.{ConnectionStateAnswer}
 use Rattle.connect.specs.declared.channel.DisconnectAnswer.{DisconnectAnswer}
 use Rattle.tunnelling.specs.Connection as Connection
@@ -65,7 +67,7 @@ use Rattle.tunnelling.specs.declared.request.TunnelingRequest.{TunnelingRequest
 use Rattle.tunnelling.specs.declared.request.TunnelingRequestAnswer.{TunnelingRequestAnswer}
 use Rattle.tunnelling.specs.declared.ack.TunnelingAck.{TunnelingAck}
 use Rattle.tunnelling.specs.declared.ack.TunnelingAckAnswer.{TunnelingAckAnswer}
-use Rattle.tunnel_model.specs.Calls.{Call, outOf}
+use Rattle.tunnel_model.specs.Calls.{Call, Open, Close, Timeout, Send, Datagram, outOf}
 use mathlib.Core.Bool.{Bool}
 use Rattle.frame.specs.Judging as Judging
 use Rattle.inspection.specs.Lines as InspectionLines
@@ -226,10 +228,16 @@ pub frame-build : (f : FrameBuilder) (body b : List ℕ) (r : Written) (after : 
 frame-build f body b = writes-refusing (FrameBuilder.checks (length body) (length b)) (Write.frame (f .«service_type») body) b
 
 -- frame::write_frame
--- frame::write_frame2
--- frame::write_frame3
 pub frame-write : (s : ServiceType) (body b : List ℕ) (r : Written) (after : List ℕ) → Write.WriteFramePromise s body b r after → Refusing (Writing.told r) × Leaves (Writing.told r) b after
 frame-write s body b = writes-refusing (Write.frameChecks (length body) (length b)) (Write.frame s body) b
+
+-- frame::write_frame2
+pub frame-write2 : (s : ServiceType) (a c b : List ℕ) (r : Written) (after : List ℕ) → Write.WriteFrame2Promise s a c b r after → Refusing (Writing.told r) × Leaves (Writing.told r) b after
+frame-write2 s a c = frame-write s (a ++ c)
+
+-- frame::write_frame3
+pub frame-write3 : (s : ServiceType) (a c d b : List ℕ) (r : Written) (after : List ℕ) → Write.WriteFrame3Promise s a c d b r after → Refusing (Writing.told r) × Leaves (Writing.told r) b after
+frame-write3 s a c d = frame-write s (a ++ c ++ d)
 
 -- ---- hpai
 
@@ -259,11 +267,18 @@ connect-request-build q b = writes-refusing (ConnectRequest.buildChecks (length 
 pub connect-response-parse : (s : List ℕ) (r : ConnectResponseAnswer) → ConnectResponse.ParsePromise s r → Refusing (ConnectResponse.told r)
 connect-response-parse s r p = judged-refusing (ConnectResponse.checks (length s) (get ConnectResponse.fields 0 s)) (done (get ConnectResponse.fields 0 s)) (ConnectResponse.told r) refl (p .0)
 
--- connect::ConnectionStateRequest::build
--- connect::DisconnectRequest::build
-pub channel-request : (s : ServiceType) (channel : ℕ) (h : Hpai) (b : List ℕ) (r : Written) (after : List ℕ)
+-- both requests of 16 bytes
+channel-request : (s : ServiceType) (channel : ℕ) (h : Hpai) (b : List ℕ) (r : Written) (after : List ℕ)
     → Channel.RequestPromise s channel h b r after → Refusing (Writing.told r) × Leaves (Writing.told r) b after
 channel-request s channel h b = writes-refusing (Channel.requestChecks (length b)) (Write.frame s (Channel.requestLayout channel h)) b
+
+-- connect::ConnectionStateRequest::build
+pub state-request-build : (q : ConnectionStateRequest) (b : List ℕ) (r : Written) (after : List ℕ) → Channel.StateBuildPromise q b r after → Refusing (Writing.told r) × Leaves (Writing.told r) b after
+state-request-build q = channel-request ServiceType.ConnectionstateRequest (q .«channel_id») (q .«control_endpoint»)
+
+-- connect::DisconnectRequest::build
+pub disconnect-request-build : (q : DisconnectRequest) (b : List ℕ) (r : Written) (after : List ℕ) → Channel.DisconnectBuildPromise q b r after → Refusing (Writing.told r) × Leaves (Writing.told r) b after
+disconnect-request-build q = channel-request ServiceType.DisconnectRequest (q .«channel_id») (q .«control_endpoint»)
 
 -- connect::ConnectionStateResponse::parse
 pub state-response-parse : (s : List ℕ) (r : ConnectionStateAnswer) → Channel.StateParsePromise s r → Refusing (Channel.toldState r)
@@ -337,7 +352,7 @@ kip-heading kip out = writes-refusing (room (length (InspectionLines.headingOf k
 pub kip-ending : (n : ℕ) (cut : Bool) (out : List ℕ) (r : Written) (after : List ℕ) → InspectionLines.EndingPromise n cut out r after → Refusing (Writing.told r) × Leaves (Writing.told r) out after
 kip-ending n cut out = writes-refusing (room (length (InspectionLines.endingOf n cut)) (length out) ∷ []) (InspectionLines.endingOf n cut) out
 
--- ---- table: the five calls alike; what a refusal leaves is the output and the table
+-- ---- tunnel_table: the five calls alike; what a refusal leaves is the output and the table
 
 -- tunnel_table::Table::open
 -- tunnel_table::Table::close
@@ -405,13 +420,13 @@ ldata-frame-data-number = LDataFrameLaws.view-none
 pub ldata-frame-data-in : (s r : List ℕ) (e : Refusal) → LData.ParsePromise s (LDataAnswer.Refused e) → LDataFrame.DataInPromise s r → r ≡ []
 ldata-frame-data-in s r e p q = q ∙ LDataFrameLaws.refused-data s e p
 
--- ---- image
+-- ---- tunnel_image
 
 -- tunnel_image::pack
 pub image-pack : (l : List Place) (image : List ℕ) (r : Written) (after : List ℕ) → Image.PackPromise l image r after → Refusing (Writing.told r) × Leaves (Writing.told r) image after
 image-pack l = write (Image.packed l)
 
--- ---- host: the readers, then the builders, whose refusals are those of the builders below
+-- ---- knx: the readers, then the builders, whose refusals are those of the builders below
 
 -- knx::knx_frame_parse
 pub knx-frame-parse : (s : List ℕ) (r : KnxFrame) → KnxReading.FramePromise s r → Refusing (KnxReading.toldFrame r)
@@ -476,14 +491,38 @@ knx-table-empty image = tells-refusing (Image.PackPromise (emptyOf kind 8) image
 
 -- ---- the five calls alike; what a refusal leaves is the output and the image
 
--- knx::knx_table_open
--- knx::knx_table_close
--- knx::knx_table_timeout
--- knx::knx_table_send
--- knx::knx_table_datagram
 pub knx-table-calls : (image : List ℕ) (c : Call) (r : KnxCalled) (after out : List ℕ) → Called.CallPromise image c r after out → (r .number ≡ 0 → ⊥)
     → Zeros (Called.told r) × (out ≡ outOf c) × (after ≡ image)
 knx-table-calls = CalledLaws.call-refusing
+
+abbrev pub LeavesImage : (List ℕ → KnxCalled → List ℕ → Type 0) → Type 0
+LeavesImage P = (image : List ℕ) (r : KnxCalled) (after : List ℕ) → P image r after → (r .number ≡ 0 → ⊥) → Zeros (Called.told r) × (after ≡ image)
+
+leaves-image : (c : Call) → LeavesImage (λ image r after. Called.CallPromise image c r after [])
+leaves-image c image r after p n = let x = knx-table-calls image c r after [] p n in (x .0, x .2)
+
+-- knx::knx_table_open
+pub knx-table-open : (id : ℕ) → LeavesImage (λ image. Called.OpenPromise image id)
+knx-table-open id = leaves-image (Open id)
+
+-- knx::knx_table_close
+pub knx-table-close : (id : ℕ) → LeavesImage (λ image. Called.ClosePromise image id)
+knx-table-close id = leaves-image (Close id)
+
+-- knx::knx_table_timeout
+pub knx-table-timeout : (id : ℕ) → LeavesImage (λ image. Called.TimeoutPromise image id)
+knx-table-timeout id = leaves-image (Timeout id)
+
+abbrev pub LeavesBoth : List ℕ → (List ℕ → KnxCalled → List ℕ → List ℕ → Type 0) → Type 0
+LeavesBoth before P = (image : List ℕ) (r : KnxCalled) (after out : List ℕ) → P image r after out → (r .number ≡ 0 → ⊥) → Zeros (Called.told r) × (out ≡ before) × (after ≡ image)
+
+-- knx::knx_table_send
+pub knx-table-send : (id : ℕ) (cemi before : List ℕ) → LeavesBoth before (λ image. Called.SendPromise image id cemi before)
+knx-table-send id cemi before image = knx-table-calls image (Send id cemi before)
+
+-- knx::knx_table_datagram
+pub knx-table-datagram : (bytes before : List ℕ) → LeavesBoth before (λ image. Called.DatagramPromise image bytes before)
+knx-table-datagram bytes before image = knx-table-calls image (Datagram bytes before)
 
 -- ---- the other public functions have no refusal: each answers on every input
 

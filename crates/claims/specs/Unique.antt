@@ -1,7 +1,7 @@
 -- "What a contract has to settle": no second answer. One theorem for each public function, under its name, over the promise that its `ensures` cites: two answers, or two answers with their lent slices, that meet the promise on the same inputs are equal. A part that is handed out is settled by its bytes.
 use Prim.Native.Nat.{ℕ}
 use mathlib.Core.Path.{_≡_}
-use mathlib.Core.List.{List, _++_}
+use mathlib.Core.List.{List, _++_, []}
 use Rattle.wire.specs.Refusals.{NumberPromise}
 use Rattle.wire.specs.Layout.{WordPromise, HighPromise, LowPromise, ByteAtPromise, WordAtPromise, CopyPromise}
 use Rattle.wire.specs.Writing.{WritePromise}
@@ -677,23 +677,23 @@ tunnel-acknowledged t n status r q = same
 pub table-empty : (r q : Table) → EmptyPromise r → EmptyPromise q → r ≡ q
 table-empty = Compiled.empty-one
 
-abbrev pub OneCall : Call → Type 0
-OneCall c = (t : Table) (r q : Called) (after later : List ℕ) → CallPromise t c r after → CallPromise t c q later → (r ≡ q) × (after ≡ later)
+abbrev pub OneCall : (Table → Called → List ℕ → Type 0) → Type 0
+OneCall P = (t : Table) (r q : Called) (after later : List ℕ) → P t r after → P t q later → (r ≡ q) × (after ≡ later)
 
 -- tunnel_table::Table::open
-pub table-open : (id : ℕ) → OneCall (Open id)
+pub table-open : (id : ℕ) → OneCall (λ t. CallPromise t (Open id))
 table-open id t = Compiled.call-one t (Open id)
 
 -- tunnel_table::Table::close
-pub table-close : (id : ℕ) → OneCall (Close id)
+pub table-close : (id : ℕ) → OneCall (λ t. CallPromise t (Close id))
 table-close id t = Compiled.call-one t (Close id)
 
 -- tunnel_table::Table::timeout
-pub table-timeout : (id : ℕ) → OneCall (Timeout id)
+pub table-timeout : (id : ℕ) → OneCall (λ t. CallPromise t (Timeout id))
 table-timeout id t = Compiled.call-one t (Timeout id)
 
 -- tunnel_table::Table::send
-pub table-send : (id : ℕ) (cemi out : List ℕ) → OneCall (Send id cemi out)
+pub table-send : (id : ℕ) (cemi out : List ℕ) → OneCall (λ t. CallPromise t (Send id cemi out))
 table-send id cemi out t = Compiled.call-one t (Send id cemi out)
 
 -- tunnel_table::Table::heard
@@ -701,7 +701,7 @@ pub table-heard : (t : Table) (h : Heard) (out : List ℕ) (r q : Called) (after
 table-heard t h out = Compiled.called-one (heardOn h out (t .places))
 
 -- tunnel_table::Table::datagram
-pub table-datagram : (bytes out : List ℕ) → OneCall (Datagram bytes out)
+pub table-datagram : (bytes out : List ℕ) → OneCall (λ t. CallPromise t (Datagram bytes out))
 table-datagram bytes out t = Compiled.call-one t (Datagram bytes out)
 
 -- ---- kip
@@ -856,29 +856,32 @@ knx-tunneling-ack = BuildingLaws.tunneling-ack-one
 pub knx-table-empty : (image : List ℕ) (r q : KnxWritten) (after later : List ℕ) → Called.EmptyPromise image r after → Called.EmptyPromise image q later → (r ≡ q) × (after ≡ later)
 knx-table-empty = CalledLaws.empty-one
 
--- of the answer, the image and the output afterwards
-abbrev pub OneImage : Call → Type 0
-OneImage c = (image : List ℕ) (r q : KnxCalled) (after later out last : List ℕ) → Called.CallPromise image c r after out → Called.CallPromise image c q later last
-    → (r ≡ q) × (after ≡ later) × (out ≡ last)
+-- of the answer and the image afterwards, where nothing is written
+one-image : (c : Call) (image : List ℕ) (r q : KnxCalled) (after later : List ℕ) → Called.CallPromise image c r after [] → Called.CallPromise image c q later [] → (r ≡ q) × (after ≡ later)
+one-image c image r q after later a b = let x = CalledLaws.call-one image c r q after later [] [] a b in (x .0, x .1)
 
 -- knx::knx_table_open
-pub knx-table-open : (id : ℕ) → OneImage (Open id)
-knx-table-open id image = CalledLaws.call-one image (Open id)
+pub knx-table-open : Lent (λ (id : ℕ) (image : List ℕ). Called.OpenPromise image id)
+knx-table-open id = one-image (Open id)
 
 -- knx::knx_table_close
-pub knx-table-close : (id : ℕ) → OneImage (Close id)
-knx-table-close id image = CalledLaws.call-one image (Close id)
+pub knx-table-close : Lent (λ (id : ℕ) (image : List ℕ). Called.ClosePromise image id)
+knx-table-close id = one-image (Close id)
 
 -- knx::knx_table_timeout
-pub knx-table-timeout : (id : ℕ) → OneImage (Timeout id)
-knx-table-timeout id image = CalledLaws.call-one image (Timeout id)
+pub knx-table-timeout : Lent (λ (id : ℕ) (image : List ℕ). Called.TimeoutPromise image id)
+knx-table-timeout id = one-image (Timeout id)
+
+-- of the answer, the image and the output afterwards
+abbrev pub OneImage : (List ℕ → KnxCalled → List ℕ → List ℕ → Type 0) → Type 0
+OneImage P = (image : List ℕ) (r q : KnxCalled) (after later out last : List ℕ) → P image r after out → P image q later last → (r ≡ q) × (after ≡ later) × (out ≡ last)
 
 -- knx::knx_table_send
-pub knx-table-send : (id : ℕ) (cemi out : List ℕ) → OneImage (Send id cemi out)
+pub knx-table-send : (id : ℕ) (cemi out : List ℕ) → OneImage (λ image. Called.SendPromise image id cemi out)
 knx-table-send id cemi out image = CalledLaws.call-one image (Send id cemi out)
 
 -- knx::knx_table_datagram
-pub knx-table-datagram : (bytes out : List ℕ) → OneImage (Datagram bytes out)
+pub knx-table-datagram : (bytes out : List ℕ) → OneImage (λ image. Called.DatagramPromise image bytes out)
 knx-table-datagram bytes out image = CalledLaws.call-one image (Datagram bytes out)
 
 -- ---- replay: what the programs that replay recorded calls share; of a record that was read, which no contract can say, the buffer that is lent to its call

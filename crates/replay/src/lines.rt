@@ -1,10 +1,10 @@
 // The line of what a call told. A piece that does not fit is left out, and the line then differs from the one expected.
 ghost use Rattle.digits.specs.Digits.{decimal};
-ghost use Rattle.replay.specs.Lines as Line;
+ghost use Rattle.replay.specs.Lines as ReplayLines;
 use crate::telling::Told;
 
 pub fn line(t: Told, buf: &[u8], out: &mut [u8]) -> usize
-    ensures { λ r. ⌜ Line.LinePromise t (now (buf .entry)) (now (out .entry)) r (now (out .exit)) ⌝ }
+    ensures { λ r. ⌜ ReplayLines.LinePromise t (now (buf .entry)) (now (out .entry)) r (now (out .exit)) ⌝ }
 {
     let a = decimal(out, 0, t.number as u64);
     let b = values(out, a, t);
@@ -16,7 +16,7 @@ pub fn line(t: Told, buf: &[u8], out: &mut [u8]) -> usize
 }
 
 fn values(out: &mut [u8], at: usize, t: Told) -> usize
-    ensures { λ r. ⌜ Line.PiecesPromise (Line.values t) (now (out .entry)) at r (now (out .exit)) ⌝ }
+    ensures { λ r. ⌜ ReplayLines.PiecesPromise (ReplayLines.values t) (now (out .entry)) at r (now (out .exit)) ⌝ }
 {
     let vs = t.values;
     let n = shown(t.count);
@@ -31,13 +31,13 @@ fn values(out: &mut [u8], at: usize, t: Told) -> usize
 }
 
 fn shown(count: usize) -> usize
-    ensures { λ r. ⌜ Line.ShownPromise count r ⌝ }
+    ensures { λ r. ⌜ ReplayLines.ShownPromise count r ⌝ }
 {
     if count < 16 { count } else { 16 }
 }
 
 fn buffer(out: &mut [u8], at: usize, buf: &[u8]) -> usize
-    ensures { λ r. ⌜ Line.PiecesPromise (Line.buffer (now (buf .entry))) (now (out .entry)) at r (now (out .exit)) ⌝ }
+    ensures { λ r. ⌜ ReplayLines.PiecesPromise (ReplayLines.buffer (now (buf .entry))) (now (out .entry)) at r (now (out .exit)) ⌝ }
 {
     let k = touched(buf);
     let a = text(out, at, b" | ");
@@ -47,7 +47,7 @@ fn buffer(out: &mut [u8], at: usize, buf: &[u8]) -> usize
 }
 
 fn bytes(out: &mut [u8], at: usize, buf: &[u8], k: usize) -> usize
-    ensures { λ r. ⌜ Line.PiecesPromise (Line.pieces (Line.bytePieces (now (buf .entry))) k 0) (now (out .entry)) at r (now (out .exit)) ⌝ }
+    ensures { λ r. ⌜ ReplayLines.PiecesPromise (ReplayLines.pieces (ReplayLines.bytePieces (now (buf .entry))) k 0) (now (out .entry)) at r (now (out .exit)) ⌝ }
 {
     let mut to = at;
     let mut i: usize = 0;
@@ -60,13 +60,13 @@ fn bytes(out: &mut [u8], at: usize, buf: &[u8], k: usize) -> usize
 
 // What the lent buffer holds at a place before each call.
 pub(crate) fn pattern(i: usize) -> u8
-    ensures { λ r. ⌜ Line.PatternPromise i r ⌝ }
+    ensures { λ r. ⌜ ReplayLines.PatternPromise i r ⌝ }
 {
     (i % 251 + 1) as u8
 }
 
 fn touched(buf: &[u8]) -> usize
-    ensures { λ r. ⌜ Line.TouchedPromise (now (buf .entry)) r ⌝ }
+    ensures { λ r. ⌜ ReplayLines.TouchedPromise (now (buf .entry)) r ⌝ }
 {
     let mut k = buf.len();
     while k > 0 {
@@ -80,7 +80,7 @@ fn touched(buf: &[u8]) -> usize
 }
 
 fn hex(out: &mut [u8], at: usize, x: u8) -> usize
-    ensures { λ r. ⌜ Line.PiecePromise (Line.hexByte x) (now (out .entry)) at r (now (out .exit)) ⌝ }
+    ensures { λ r. ⌜ ReplayLines.PiecePromise (ReplayLines.hexByte x) (now (out .entry)) at r (now (out .exit)) ⌝ }
 {
     let pair = [
         digits::hex_digit((x / 16) as u16),
@@ -90,7 +90,7 @@ fn hex(out: &mut [u8], at: usize, x: u8) -> usize
 }
 
 fn decimal(out: &mut [u8], at: usize, n: u64) -> usize
-    ensures { λ r. ⌜ Line.PiecePromise (decimal n) (now (out .entry)) at r (now (out .exit)) ⌝ }
+    ensures { λ r. ⌜ ReplayLines.PiecePromise (decimal n) (now (out .entry)) at r (now (out .exit)) ⌝ }
 {
     let count = digits::places(n);
     if out.len() < at {
@@ -105,7 +105,7 @@ fn decimal(out: &mut [u8], at: usize, n: u64) -> usize
 }
 
 fn text(out: &mut [u8], at: usize, s: &[u8]) -> usize
-    ensures { λ r. ⌜ Line.PiecePromise (now (s .entry)) (now (out .entry)) at r (now (out .exit)) ⌝ }
+    ensures { λ r. ⌜ ReplayLines.PiecePromise (now (s .entry)) (now (out .entry)) at r (now (out .exit)) ⌝ }
 {
     if out.len() < at {
         return at;
