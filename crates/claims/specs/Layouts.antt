@@ -60,6 +60,8 @@ nines = 9 ∷ 9 ∷ 9 ∷ 9 ∷ 9 ∷ 9 ∷ 9 ∷ 9 ∷ 9 ∷ []
 pub record Endpoints : Type 0 where
   pub header-parse : Header.ParsePromise headerBytes (HeaderAnswer.Header header)
   pub header-encode : Header.EncodePromise header nines (Bytes 6) (headerBytes ++ 9 ∷ 9 ∷ 9 ∷ [])
+  pub body-length : Header.BodyLengthPromise header 527
+  pub body-length-below : Header.BodyLengthPromise (record { «header_length» = 6; «protocol_version» = 0x10; «service_type» = TunnellingRequest; «total_length» = 5 }) 0
   pub hpai-parse : Hpai.ParsePromise (endpointBytes ++ 0xEE ∷ []) (record { number = 0; hpai = endpoint })
   pub hpai-encode : Hpai.EncodePromise endpoint nines (Bytes 8) (endpointBytes ++ 9 ∷ [])
   pub hpai-protocol : Hpai.ParsePromise otherBytes (record { number = 0; hpai = other })
@@ -73,6 +75,8 @@ pub endpoints : Endpoints
 endpoints = record {
   header-parse = refl;
   header-encode = (refl, refl);
+  body-length = refl;
+  body-length-below = refl;
   hpai-parse = refl;
   hpai-encode = (refl, refl);
   hpai-protocol = refl;

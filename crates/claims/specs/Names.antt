@@ -2,7 +2,8 @@
 use Prim.Native.Nat.{ℕ}
 use mathlib.Core.Path.{_≡_, refl}
 use mathlib.Core.Bool.{true, false}
-use Rattle.wire.specs.declared.refusals.Refusal.the-variants.{UnsupportedServiceType, InvalidMessageCode}
+use Rattle.wire.specs.Refusals.{NumberPromise}
+use Rattle.wire.specs.declared.refusals.Refusal.the-variants.{BufferTooSmall, InvalidFrame, UnsupportedVersion, UnsupportedServiceType, PayloadTooLarge, InvalidMessageCode, AlreadyOpen, TableFull, NotOpen, AwaitsAck, AwaitsNothing, NotForTunnels, FieldOutOfRange}
 use Rattle.constants.specs.Services as Services
 use Rattle.constants.specs.declared.services.ServiceType.the-variants as ServiceType
 use Rattle.constants.specs.declared.services.ServiceAnswer.the-variants as ServiceAnswer
@@ -28,6 +29,39 @@ use Rattle.cemi.specs.Cemi as Cemi
 use Rattle.tunnel.specs.declared.rules.Said.the-variants as Said
 use Rattle.tunnel.specs.declared.rules.Wait.the-variants as Wait
 use Rattle.tunnel.specs.Numbers.{saidOf, waitNumber}
+
+-- the numbers of 01's table
+pub record RefusalNumbers : Type 0 where
+  pub too-small : NumberPromise BufferTooSmall 1
+  pub invalid-frame : NumberPromise InvalidFrame 2
+  pub version : NumberPromise UnsupportedVersion 3
+  pub unknown-service : NumberPromise UnsupportedServiceType 4
+  pub too-large : NumberPromise PayloadTooLarge 5
+  pub message-code : NumberPromise InvalidMessageCode 6
+  pub already-open : NumberPromise AlreadyOpen 7
+  pub table-full : NumberPromise TableFull 8
+  pub not-open : NumberPromise NotOpen 9
+  pub waits-for-ack : NumberPromise AwaitsAck 10
+  pub waits-for-nothing : NumberPromise AwaitsNothing 11
+  pub not-for-tunnels : NumberPromise NotForTunnels 12
+  pub out-of-range : NumberPromise FieldOutOfRange 13
+
+pub refusal-numbers : RefusalNumbers
+refusal-numbers = record {
+  too-small = refl;
+  invalid-frame = refl;
+  version = refl;
+  unknown-service = refl;
+  too-large = refl;
+  message-code = refl;
+  already-open = refl;
+  table-full = refl;
+  not-open = refl;
+  waits-for-ack = refl;
+  waits-for-nothing = refl;
+  not-for-tunnels = refl;
+  out-of-range = refl;
+}
 
 -- what `from_u16` answers to each code of 01, and to two that the published crate knows
 pub record ServiceNames : Type 0 where

@@ -82,10 +82,15 @@ pub record Order : Type 0 where
   pub version-before-service : Header.parseBy01 (0x06 ∷ 0x20 ∷ 0xFF ∷ 0xFF ∷ 0x00 ∷ 0x06 ∷ []) .number ≡ 3
   -- the frame: the header's 4 before the total length's 2
   pub service-before-total : Frame.parseBy01 (0x06 ∷ 0x10 ∷ 0xFF ∷ 0xFF ∷ 0x00 ∷ 0x05 ∷ []) .number ≡ 4
+  pub input-below-total : Frame.parseBy01 (0x06 ∷ 0x10 ∷ 0x04 ∷ 0x20 ∷ 0x00 ∷ 0x07 ∷ []) .number ≡ 2
+  -- the largest body of a header, and one byte more
+  pub new-65529 : Header.newBy01 TunnellingAck 65529 ≡ done (6 ∷ 0x10 ∷ 0x0421 ∷ 65535 ∷ [])
+  pub new-65530 : Header.newBy01 TunnellingAck 65530 .number ≡ 5
   -- the builder: a body of 507 is 5 before its buffer of 0 is 1
   pub large-before-room : built01 507 0 ≡ 5
   pub room-alone : built01 506 511 ≡ 1
   pub both-fit : built01 506 512 ≡ 0
+  pub size-507 : FrameBuilder.SizePromise (replicate 507 0) 513
   -- the body ends at the total length, not at the datagram's end
   pub body-to-total : Frame.bodyBy01 (built TunnellingAck (replicate 5 0)) trailed ≡ viewed 6 11
   -- an Hpai: 1 before 2
@@ -131,6 +136,7 @@ pub record Order : Type 0 where
   pub data-L2 : asLData (nineBytes 2 0x00) ≡ 0
   pub control-L0 : asLData (nineBytes 0 0x80) ≡ 2
   pub control-L1 : asLData (nineBytes 1 0x80) ≡ 0
+  pub control-values : LData.parseBy01 crateCount (0x94 ∷ 0xE0 ∷ 0x11 ∷ 0x05 ∷ 0x08 ∷ 0x03 ∷ 0x01 ∷ 0xD6 ∷ 0xBF ∷ []) ≡ done (0x94 ∷ 0xE0 ∷ 0x1105 ∷ 0x0803 ∷ 1 ∷ 3 ∷ 5 ∷ 0 ∷ 0 ∷ [])
   pub L255-262 : asLData (nineBytes 255 0x00 ++ replicate 253 0) ≡ 0
   pub L255-261 : asLData (nineBytes 255 0x00 ++ replicate 252 0) ≡ 2
   -- a record that borrows its data: up to the end that L says, and 2 where that is past what it borrows, or lies before the start
@@ -155,9 +161,13 @@ orders = record {
   length-before-version = refl;
   version-before-service = refl;
   service-before-total = refl;
+  input-below-total = refl;
+  new-65529 = refl;
+  new-65530 = refl;
   large-before-room = refl;
   room-alone = refl;
   both-fit = refl;
+  size-507 = refl;
   body-to-total = refl;
   hpai-short-before-length = refl;
   cri-short-before-length = refl;
@@ -194,6 +204,7 @@ orders = record {
   data-L2 = refl;
   control-L0 = refl;
   control-L1 = refl;
+  control-values = refl;
   L255-262 = refl;
   L255-261 = refl;
   borrowed-all = refl;
