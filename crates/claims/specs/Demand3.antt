@@ -118,27 +118,27 @@ module _ (image start : List ℕ) (w : KnxWritten) (emptied : Called.EmptyPromis
   rest = drop 40 image
 
   -- the image that the last of them left
-  abbrev pub left : List ℕ
-  left = KnxRuns.lastOf rest start gs
+  abbrev pub lastImage : List ℕ
+  lastImage = KnxRuns.lastOf rest start gs
 
   begun : start ≡ emptyImage rest
   begun = empty-is image w start emptied done
 
-  pub border-isolates : (calls : List Call) (hs : List KnxRuns.Given) (b : ℕ) (p : Tunnel) → KnxRuns.Ran rest left calls hs → imageTable rest .look b left ≡ some p
-      → KnxRuns.seenBy rest b left calls hs ≡ loneTrace chan (some p) (callsOf chan (names chan b) calls)
+  pub border-isolates : (calls : List Call) (hs : List KnxRuns.Given) (b : ℕ) (p : Tunnel) → KnxRuns.Ran rest lastImage calls hs → imageTable rest .look b lastImage ≡ some p
+      → KnxRuns.seenBy rest b lastImage calls hs ≡ loneTrace chan (some p) (callsOf chan (names chan b) calls)
   border-isolates = RunLaws.run-isolates chan (imageTable rest) KnxRuns.Given KnxRuns.given-as start begun before gs ran (image-isolates rest)
 
-  pub border-no-difference : (calls others : List Call) (hs is : List KnxRuns.Given) (b : ℕ) (p : Tunnel) → KnxRuns.Ran rest left calls hs → KnxRuns.Ran rest left others is
-      → imageTable rest .look b left ≡ some p → callsOf chan (names chan b) calls ≡ callsOf chan (names chan b) others
-      → KnxRuns.seenBy rest b left calls hs ≡ KnxRuns.seenBy rest b left others is
+  pub border-no-difference : (calls others : List Call) (hs is : List KnxRuns.Given) (b : ℕ) (p : Tunnel) → KnxRuns.Ran rest lastImage calls hs → KnxRuns.Ran rest lastImage others is
+      → imageTable rest .look b lastImage ≡ some p → callsOf chan (names chan b) calls ≡ callsOf chan (names chan b) others
+      → KnxRuns.seenBy rest b lastImage calls hs ≡ KnxRuns.seenBy rest b lastImage others is
   border-no-difference = RunLaws.run-no-difference chan (imageTable rest) KnxRuns.Given KnxRuns.given-as start begun before gs ran (image-isolates rest)
 
-  pub border-opens : (r : KnxCalled) (b : ℕ) (after : List ℕ) → Called.OpenPromise left b r after → imageTable rest .look b left ≡ none
-      → Opening chan (imageTable rest) 8 b left (Open b) (KnxRuns.given-as ((r, []), after))
+  pub border-opens : (r : KnxCalled) (b : ℕ) (after : List ℕ) → Called.OpenPromise lastImage b r after → imageTable rest .look b lastImage ≡ none
+      → Opening chan (imageTable rest) 8 b lastImage (Open b) (KnxRuns.given-as ((r, []), after))
   border-opens r b after p e =
       RunLaws.run-opens chan (imageTable rest) KnxRuns.Given KnxRuns.given-as start begun before gs ran 8 (image-opens rest) (Open b) ((r, []), after) b p refl refl e
 
-  pub border-one-place : (b : ℕ) → countOf (holds kind b) (unpacked left) ≤ 1
+  pub border-one-place : (b : ℕ) → countOf (holds kind b) (unpacked lastImage) ≤ 1
   border-one-place b =
       subst (λ (l : List ℕ). countOf (holds kind b) (unpacked l) ≤ 1) (sym (RunLaws.there chan (imageTable rest) KnxRuns.Given KnxRuns.given-as start begun before gs ran)) (ImageDemand3.image-one-place rest before b)
 

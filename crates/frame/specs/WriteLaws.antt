@@ -1,4 +1,4 @@
--- How a frame is laid into a buffer, part behind part. Assumes nothing.
+-- How a frame is laid into a buffer, piece behind piece. Assumes nothing.
 use Prim.Native.Nat.{ℕ, _+_, _≤_}
 use native.Mathlib.Omega.{arith}
 use mathlib.Core.Path.{_≡_, refl, ap, _∙_}
@@ -20,11 +20,11 @@ use Rattle.frame.specs.Write.{frame, frameChecks, WriteFramePromise}
 abbrev pub lead : ServiceType → ℕ → List ℕ
 lead s total = put fields (headerSize ∷ version10 ∷ codeOf s ∷ total ∷ [])
 
--- the sum that is asked of three parts is the frame's length
+-- the sum that is asked of three pieces is the frame's length
 pub sum-of : (a b c : List ℕ) → 6 + length a + length b + length c ≡ 6 + length (a ++ b ++ c)
 sum-of a b c = omega (arith, length-three a b c)
 
--- a header, and three parts copied one behind another, are the frame of the three
+-- a header, and three pieces copied one behind another, are the frame of the three
 pub laid : (s : ServiceType) (a b c buf one two three four : List ℕ)
     → 6 + length a + length b + length c ≤ length buf
     → one ≡ onto buf (lead s (6 + length a + length b + length c))

@@ -15,18 +15,17 @@ pub fn run()
         captures::capture(STDIN_FILENO, b"standard input", &mut input, &mut out);
         return;
     }
-    if count == 2 {
-        if asks_help() {
-            io::write_all(
-                STDERR_FILENO,
-                b"usage: inspect [NAME ..]: captures in files, - for standard input, which is read where there is no name\n",
-            );
-            return;
-        }
+    if asks_help() {
+        io::write_all(
+            STDERR_FILENO,
+            b"usage: inspect [NAME ..]: captures in files, - for standard input, which is read where there is no name\n",
+        );
+        return;
     }
     arguments(count, &mut input, &mut out);
 }
 
+// Any number of names is taken, so none is wrong; a file of this name is `./--help`.
 fn asks_help() -> bool {
     let mut name = io::buffer();
     let k = os::arg(1, &mut name);

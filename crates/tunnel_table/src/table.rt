@@ -224,11 +224,11 @@ impl Table {
     fn acknowledgement(self, channel: u8, number: u8, status: u8) -> Called
         ensures { λ r. ⌜ AcknowledgementPromise self channel number status r ⌝ }
     {
-        let held = self.places;
-        match places::find(held, Wanted::Channel(channel)) {
+        let all = self.places;
+        match places::find(all, Wanted::Channel(channel)) {
             Found::Nothing => self.refuse(Refusal::NotOpen),
             Found::At(i) => {
-                let tunnel = places::tunnel_in(held[i]);
+                let tunnel = places::tunnel_in(all[i]);
                 self.step(i, channel, tunnel.acknowledged(number, status))
             }
         }
