@@ -3,6 +3,7 @@ use constants::ServiceType;
 use frame::FrameBuilder;
 use header::HeaderAnswer;
 use header::KnxnetIpHeader;
+use libc::STDERR_FILENO;
 use libc::STDOUT_FILENO;
 use tunnelling::ConnectionHeader;
 use tunnelling::TunnelingRequest;
@@ -61,6 +62,10 @@ fn builders(bytes: &[u8], buf: &mut [u8]) {
 }
 
 fn main() {
+    if os::arg_count() > 1 {
+        io::write_all(STDERR_FILENO, b"usage: cases\n");
+        return;
+    }
     header(b"header, body 65529", 65529);
     header(b"header, body 65530", 65530);
     let bytes = [7u8; 65536];

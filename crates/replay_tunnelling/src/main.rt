@@ -26,6 +26,10 @@ fn run(args: &mut [u8], buf: &mut [u8], out: &mut [u8]) {
 }
 
 fn main() {
+    if os::arg_count() > 1 {
+        io::write_all(2, b"usage: replay_tunnelling < RECORDS\n");
+        return;
+    }
     let mut args = [0u8; 66000];
     let mut buf = [0u8; 66000];
     let mut out = [0u8; 133000];
