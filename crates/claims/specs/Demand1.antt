@@ -341,16 +341,16 @@ tunnel-acknowledged = RuleLaws.acknowledged-done
 -- ---- kip
 
 -- inspection::line
-pub kip-line : (n : ℕ) (j : Judged) (out : List ℕ) (r : Written) (after : List ℕ) → InspectionLines.LinePromise n j out r after → Refusing (Writing.told r) × Leaves (Writing.told r) out after
-kip-line n j out = writes-refusing (room (length (InspectionLines.lineOf n j)) (length out) ∷ []) (InspectionLines.lineOf n j) out
+pub inspection-line : (n : ℕ) (j : Judged) (out : List ℕ) (r : Written) (after : List ℕ) → InspectionLines.LinePromise n j out r after → Refusing (Writing.told r) × Leaves (Writing.told r) out after
+inspection-line n j out = writes-refusing (room (length (InspectionLines.lineOf n j)) (length out) ∷ []) (InspectionLines.lineOf n j) out
 
 -- inspection::heading
-pub kip-heading : (kip : Bool) (out : List ℕ) (r : Written) (after : List ℕ) → InspectionLines.HeadingPromise kip out r after → Refusing (Writing.told r) × Leaves (Writing.told r) out after
-kip-heading kip out = writes-refusing (room (length (InspectionLines.headingOf kip)) (length out) ∷ []) (InspectionLines.headingOf kip) out
+pub inspection-heading : (kip : Bool) (out : List ℕ) (r : Written) (after : List ℕ) → InspectionLines.HeadingPromise kip out r after → Refusing (Writing.told r) × Leaves (Writing.told r) out after
+inspection-heading kip out = writes-refusing (room (length (InspectionLines.headingOf kip)) (length out) ∷ []) (InspectionLines.headingOf kip) out
 
 -- inspection::ending
-pub kip-ending : (n : ℕ) (cut : Bool) (out : List ℕ) (r : Written) (after : List ℕ) → InspectionLines.EndingPromise n cut out r after → Refusing (Writing.told r) × Leaves (Writing.told r) out after
-kip-ending n cut out = writes-refusing (room (length (InspectionLines.endingOf n cut)) (length out) ∷ []) (InspectionLines.endingOf n cut) out
+pub inspection-ending : (n : ℕ) (cut : Bool) (out : List ℕ) (r : Written) (after : List ℕ) → InspectionLines.EndingPromise n cut out r after → Refusing (Writing.told r) × Leaves (Writing.told r) out after
+inspection-ending n cut out = writes-refusing (room (length (InspectionLines.endingOf n cut)) (length out) ∷ []) (InspectionLines.endingOf n cut) out
 
 -- ---- tunnel_table: the five calls alike; what a refusal leaves is the output and the table
 

@@ -731,40 +731,40 @@ pub kip-next-record : One₂ Capture.NextPromise
 kip-next-record s at r q = same
 
 -- inspection::line
-pub kip-line : Lent₂ InspectionLines.LinePromise
-kip-line = InspectionLinesLaws.line-one
+pub inspection-line : Lent₂ InspectionLines.LinePromise
+inspection-line = InspectionLinesLaws.line-one
 
 -- inspection::scan
-pub kip-scan : (s out : List ℕ) (spot : Spot) (r q : Scanned) (after later : List ℕ) → Scanning.ScanPromise s out spot r after → Scanning.ScanPromise s out spot q later → (r ≡ q) × (after ≡ later)
-kip-scan = ScanningLaws.scan-one
+pub inspection-scan : (s out : List ℕ) (spot : Spot) (r q : Scanned) (after later : List ℕ) → Scanning.ScanPromise s out spot r after → Scanning.ScanPromise s out spot q later → (r ≡ q) × (after ≡ later)
+inspection-scan = ScanningLaws.scan-one
 
 -- inspection::heading
-pub kip-heading : Lent InspectionLines.HeadingPromise
-kip-heading = InspectionLinesLaws.heading-one
+pub inspection-heading : Lent InspectionLines.HeadingPromise
+inspection-heading = InspectionLinesLaws.heading-one
 
 -- inspection::begin
-pub kip-begin : (r q : Progress) → Turns.BeginPromise r → Turns.BeginPromise q → r ≡ q
-kip-begin r q = same
+pub inspection-begin : (r q : Progress) → Turns.BeginPromise r → Turns.BeginPromise q → r ≡ q
+inspection-begin r q = same
 
 -- inspection::written_out
-pub kip-written-out : One Turns.WrittenOutPromise
-kip-written-out p r q = same
+pub inspection-written-out : One Turns.WrittenOutPromise
+inspection-written-out p r q = same
 
 -- inspection::read_on
-pub kip-read-on : One₃ Turns.ReadOnPromise
-kip-read-on s p k r q = same
+pub inspection-read-on : One₃ Turns.ReadOnPromise
+inspection-read-on s p k r q = same
 
 -- inspection::to_front
-pub kip-to-front : (s : List ℕ) (p r q : Progress) (after later : List ℕ) → Turns.ToFrontPromise s p r after → Turns.ToFrontPromise s p q later → (r ≡ q) × (after ≡ later)
-kip-to-front s p r q after later a b = (same (a .0) (b .0), same (a .1) (b .1))
+pub inspection-to-front : (s : List ℕ) (p r q : Progress) (after later : List ℕ) → Turns.ToFrontPromise s p r after → Turns.ToFrontPromise s p q later → (r ≡ q) × (after ≡ later)
+inspection-to-front s p r q after later a b = (same (a .0) (b .0), same (a .1) (b .1))
 
 -- inspect_io::run
 pub inspect-run : (r q : Unit {0}) → Running.RunPromise r → Running.RunPromise q → r ≡ q
 inspect-run r q = same
 
 -- inspection::ending
-pub kip-ending : Lent₂ InspectionLines.EndingPromise
-kip-ending = InspectionLinesLaws.ending-one
+pub inspection-ending : Lent₂ InspectionLines.EndingPromise
+inspection-ending = InspectionLinesLaws.ending-one
 
 -- ---- borrowed: the bytes that a record borrows, and those that it hands out, are settled by its bytes
 
