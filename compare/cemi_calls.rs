@@ -1,16 +1,17 @@
 // The compared calls of cemi.rs, of the stand-in's codes and of 01's L_Data builder; their rows
 // are in calls.rs.
 
-use crate::calls::{handed_out, said, u16_at, Said};
+use crate::calls::{handed_out, place, said, u16_at, Said};
 use crate::error::KnxError;
 use crate::ldata_builder::LDataBuilder;
 use crate::protocol::cemi::{
-    extract_6bit_value, Apci, CEMIFrame, ControlField1, ControlField2, LDataFrame, Tpci,
+    extract_6bit_value, AdditionalInfoType, Apci, CEMIFrame, ControlField1, ControlField2, LDataFrame,
+    Tpci,
 };
 use crate::protocol::constants::{CEMIMessageCode, Priority};
 use crate::variants::{
-    apci_number, message_code_number, message_code_of, priority_number, priority_of, tpci_numbers,
-    tpci_of,
+    apci_number, info_type_number, message_code_number, message_code_of, priority_number, priority_of,
+    tpci_numbers, tpci_of,
 };
 
 fn only(value: u8) -> Said {
@@ -37,6 +38,28 @@ pub fn priority_from(args: &[u8], _: &mut [u8]) -> Said {
 /// The variant's number, and its two bits.
 fn priority_values(priority: Priority) -> [usize; 2] {
     [priority_number(priority), priority.to_u8().into()]
+}
+
+const INFO_TYPES: [AdditionalInfoType; 7] = [
+    AdditionalInfoType::PlMediumInfo,
+    AdditionalInfoType::RfMediumInfo,
+    AdditionalInfoType::BusmonitorErrorFlags,
+    AdditionalInfoType::RelativeTimestamp,
+    AdditionalInfoType::TimeDelay,
+    AdditionalInfoType::ExtendedRelativeTimestamp,
+    AdditionalInfoType::BiBatInfo,
+];
+
+/// The Rust has no conversion: a number's variant is the one that has it as its discriminant.
+pub fn info_type_from(args: &[u8], _: &mut [u8]) -> Said {
+    let number = *args.first()?;
+    let named = INFO_TYPES.into_iter().find(|&kind| kind as u8 == number);
+    Some(Ok(named.map_or([0, number.into()], info_type_values).into()))
+}
+
+/// The variant's number, and its own.
+fn info_type_values(kind: AdditionalInfoType) -> [usize; 2] {
+    [info_type_number(kind), usize::from(kind as u8)]
 }
 
 // Control fields
@@ -177,6 +200,14 @@ pub fn frame_parse(args: &[u8], _: &mut [u8]) -> Said {
 
 pub fn frame_service_info(args: &[u8], _: &mut [u8]) -> Said {
     said(CEMIFrame::parse(args).and_then(|frame| Ok(handed_out(frame.service_info()?, args).into())))
+}
+
+/// The area lies between the two head bytes and the service information.
+pub fn frame_additional_info(args: &[u8], _: &mut [u8]) -> Said {
+    said(CEMIFrame::parse(args).and_then(|frame| {
+        let [end, _] = place(frame.service_info()?, args);
+        Ok(handed_out(&args[2..end], args).into())
+    }))
 }
 
 pub fn frame_as_ldata(args: &[u8], _: &mut [u8]) -> Said {

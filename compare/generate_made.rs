@@ -101,7 +101,7 @@ fn ldata_services(emit: Emit) {
 
 /// A record that holds its slice: every answer that it may hold, then every check.
 fn held_frames(emit: Emit) {
-    for refused in 1..=13 {
+    for refused in 1..=14 {
         emit(56, &[refused, 6, 0x10, 7, 0, 9, 1, 2, 3, 4, 5, 6, 7, 8, 9], 0);
         emit(57, &[refused, 3, 0, 0, 0x2A], 0);
     }
@@ -156,7 +156,7 @@ fn random_ldata(rng: &mut Rng) -> Vec<u8> {
 }
 
 fn random_refusal(rng: &mut Rng) -> u8 {
-    if rng.below(8) == 0 { 1 + rng.below(13) as u8 } else { 0 }
+    if rng.below(8) == 0 { 1 + rng.below(14) as u8 } else { 0 }
 }
 
 fn random_held(rng: &mut Rng) -> Vec<u8> {

@@ -13,7 +13,7 @@ const UNSUPPORTED_VERSION: u8 = 3;
 const INVALID_MESSAGE_CODE: u8 = 6;
 
 /// The message codes in 01's order, those of L_Data first.
-const MESSAGE_CODES: [u8; 7] = [0x11, 0x29, 0x2E, 0x10, 0x2D, 0x2F, 0x2B];
+pub const MESSAGE_CODES: [u8; 7] = [0x11, 0x29, 0x2E, 0x10, 0x2D, 0x2F, 0x2B];
 /// The codes of the named application services, in the order of their numbers.
 const APCI_CODES: [u16; 13] = [
     0x000, 0x040, 0x080, 0x0C0, 0x100, 0x140, 0x180, 0x1C0, 0x200, 0x240, 0x280, 0x300, 0x340,
@@ -48,7 +48,8 @@ fn word(high: u8, low: u8) -> u16 {
     u16::from_be_bytes([high, low])
 }
 
-fn told(answer: Result<Vec<usize>, u8>) -> (u8, Vec<usize>) {
+/// A refusal has no values.
+pub fn told(answer: Result<Vec<usize>, u8>) -> (u8, Vec<usize>) {
     answer.map_or_else(|number| (number, Vec::new()), |values| (0, values))
 }
 

@@ -1,8 +1,9 @@
-// The numbers of variants, 1 and up in the order of document 01, for APCI in that of cemi.rs; they
-// are no codes of KNX. A record and a line name a variant by its number, each side of the comparison
-// by a match of its own: two variants in each other's place are then seen, whatever their codes say.
+// The numbers of variants, 1 and up in the order of document 01, for APCI and the types of additional
+// information in that of cemi.rs; they are no codes of KNX. A record and a line name a variant by its
+// number, each side of the comparison by a match of its own: two variants in each other's place are
+// then seen, whatever their codes say.
 
-use crate::protocol::cemi::{Apci, Tpci};
+use crate::protocol::cemi::{AdditionalInfoType, Apci, Tpci};
 use crate::protocol::constants::{CEMIMessageCode, Priority, ServiceType};
 
 pub fn service_number(service: ServiceType) -> usize {
@@ -93,6 +94,18 @@ pub fn apci_number(apci: Apci) -> usize {
         Apci::MemoryWrite => 11,
         Apci::DeviceDescriptorRead => 12,
         Apci::DeviceDescriptorResponse => 13,
+    }
+}
+
+pub fn info_type_number(kind: AdditionalInfoType) -> usize {
+    match kind {
+        AdditionalInfoType::PlMediumInfo => 1,
+        AdditionalInfoType::RfMediumInfo => 2,
+        AdditionalInfoType::BusmonitorErrorFlags => 3,
+        AdditionalInfoType::RelativeTimestamp => 4,
+        AdditionalInfoType::TimeDelay => 5,
+        AdditionalInfoType::ExtendedRelativeTimestamp => 6,
+        AdditionalInfoType::BiBatInfo => 7,
     }
 }
 

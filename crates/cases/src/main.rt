@@ -1,4 +1,7 @@
 // 01's cases on both sides that are run and not proved: one line for each, with its number and, where that is 0, the length that is answered.
+// Then an area of a quarter of a million records: no proof speaks of the stack that reading it takes.
+use additional_info::AdditionalInfoAnswer;
+use additional_info::CountAnswer;
 use constants::ServiceType;
 use frame::FrameBuilder;
 use header::HeaderAnswer;
@@ -61,6 +64,31 @@ fn builders(bytes: &[u8], buf: &mut [u8]) {
     tunneling_request(b"cEMI 65526, buffer 65536", cemi, buf, 65536);
 }
 
+fn count(name: &[u8], area: &[u8]) {
+    match additional_info::count(area) {
+        CountAnswer::Count(many) => row(name, 0, many),
+        CountAnswer::Refused(why) => row(name, why.number(), 0),
+    }
+}
+
+// Where the record's data ends; 0 where there is none.
+fn nth(name: &[u8], area: &[u8], n: usize) {
+    match additional_info::nth(area, n) {
+        AdditionalInfoAnswer::Record(info) => row(name, 0, info.end),
+        AdditionalInfoAnswer::None => row(name, 0, 0),
+        AdditionalInfoAnswer::Refused(why) => row(name, why.number(), 0),
+    }
+}
+
+// Two zeros are a record without data.
+fn areas(zeros: &[u8]) {
+    let area = wire::part(zeros, 0, 524288);
+    count(b"area of 512 KiB, records", area);
+    nth(b"area of 512 KiB, end of the last record", area, 262143);
+    nth(b"area of 512 KiB, behind the last record", area, 262144);
+    count(b"area of 512 KiB and a lone type byte, records", zeros);
+}
+
 fn main() {
     if os::arg_count() > 1 {
         io::write_all(STDERR_FILENO, b"usage: cases\n");
@@ -71,4 +99,6 @@ fn main() {
     let bytes = [7u8; 65536];
     let mut buf = [9u8; 65536];
     builders(&bytes, &mut buf);
+    let zeros = [0u8; 524289];
+    areas(&zeros);
 }

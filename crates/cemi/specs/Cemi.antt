@@ -1,4 +1,4 @@
--- 01, "cEMI": message code, additional length, the additional information, and what the code says the rest is. Assumes nothing.
+-- 01, "cEMI": message code, additional length, the additional information, and what the code says the rest is; 02, 1/13: the area, and a whole frame. Assumes nothing.
 use Prim.Native.Nat.{ℕ, _+_}
 use mathlib.Core.Path.{_≡_}
 use mathlib.Core.Bool.{Bool, true, false, not}
@@ -7,12 +7,14 @@ use lib.ListN.{length, getD}
 use lib.Dec.{ltb}
 use Rattle.wire.specs.Told.{Told, done, viewed, refused, Check, _⇒_, verdict, judged}
 use Rattle.wire.specs.Coding.{check}
-use Rattle.wire.specs.Layout.{Field, byte, get}
+use Rattle.wire.specs.Layout.{Field, byte, put, get}
+use Rattle.wire.specs.Writing.{Writes, room}
 use Rattle.wire.specs.Format.{Format, checksOf, readBy01}
 use Rattle.wire.specs.Parts.{partOf, shown}
 use Rattle.wire.specs.Parts as Parts
 use Rattle.wire.specs.declared.refusals.Refusal.the-variants.{InvalidFrame, InvalidMessageCode}
 use Rattle.wire.specs.declared.refusals.Verdict.{Verdict}
+use Rattle.wire.specs.declared.refusals.Written.{Written}
 use Rattle.wire.specs.declared.parts.View.{View}
 use Rattle.constants.specs.MessageCodes.{messageCodes, codeOf}
 use Rattle.constants.specs.declared.message_codes.CEMIMessageCode.{CEMIMessageCode}
@@ -21,6 +23,7 @@ use Rattle.ldata.specs.Count.{crateCount}
 use Rattle.ldata.specs.LData.{valuesIn, byteChecks}
 use Rattle.ldata.specs.LData as LData
 use Rattle.ldata.specs.declared.ldata.LDataAnswer.{LDataAnswer}
+use Rattle.additional_info.specs.Appending.{areaChecks}
 use Rattle.cemi.specs.declared.CEMIFrame.{CEMIFrame}
 use Rattle.cemi.specs.declared.CEMIAnswer.{CEMIAnswer}
 use Rattle.cemi.specs.declared.CEMIAnswer.the-variants as CEMIAnswer
@@ -117,3 +120,26 @@ asLDataBy01 f s = judged (checks s ++ ldataChecks f s ++ byteChecks crateCount (
 
 abbrev pub AsLDataPromise : CEMIFrame → List ℕ → LDataAnswer → Type 0
 AsLDataPromise f s r = LData.told r ≡ asLDataBy01 f s
+
+-- ---- 02, 1/13: the additional information
+
+-- it stands from 2 to 2 + additional length; it is asked for as what follows it is, and not judged
+abbrev pub infoBy02 : List ℕ → Told
+infoBy02 s = judged (checks s ++ infoCheck s ∷ []) (viewed 2 (2 + infoLength s))
+
+abbrev pub InfoPromise : List ℕ → View → Type 0
+InfoPromise s r = Parts.told r ≡ infoBy02 s
+
+abbrev pub InfoPartPromise : List ℕ → List ℕ → Type 0
+InfoPartPromise s r = r ≡ shown s (infoBy02 s)
+
+-- a whole frame: message code, area, and the rest as bytes that are not looked at
+abbrev pub layout : ℕ → List ℕ → List ℕ → List ℕ
+layout code area rest = put fields (code ∷ length area ∷ []) ++ area ++ rest
+
+-- the area's own, 14 and above 255 (5), then a buffer below 2 + area + rest (1)
+abbrev pub buildChecks : List ℕ → ℕ → ℕ → List Check
+buildChecks area n m = areaChecks area 0 ++ room (2 + length area + n) m ∷ []
+
+abbrev pub BuildPromise : CEMIFrame → List ℕ → List ℕ → List ℕ → Written → List ℕ → Type 0
+BuildPromise f area rest b r after = Writes (buildChecks area (length rest) (length b)) (layout (codeOf (f .«message_code»)) area rest) b r after

@@ -1,5 +1,5 @@
 // A cEMI frame: cemi.rs, `CEMIFrame`, whose slice stands beside it as a parameter.
-ghost use Rattle.cemi.specs.Cemi.{ParsePromise, StandsPromise, MessageCodePromise, InfoLengthPromise, ServiceInfoPromise, ServiceInfoPartPromise, AsLDataPromise, IsLDataPromise};
+ghost use Rattle.cemi.specs.Cemi.{ParsePromise, StandsPromise, MessageCodePromise, InfoLengthPromise, ServiceInfoPromise, ServiceInfoPartPromise, AsLDataPromise, IsLDataPromise, InfoPromise, InfoPartPromise, BuildPromise};
 use constants::CEMIMessageCode;
 use constants::CEMIMessageCodeAnswer;
 use ldata::LDataAnswer;
@@ -7,6 +7,7 @@ use ldata::LDataFields;
 use wire::Refusal;
 use wire::Verdict;
 use wire::View;
+use wire::Written;
 
 pub struct CEMIFrame {
     pub message_code: CEMIMessageCode,
@@ -113,6 +114,43 @@ impl CEMIFrame {
             CEMIMessageCode::LRawInd => false,
             CEMIMessageCode::LRawCon => false,
             CEMIMessageCode::LBusmonInd => false,
+        }
+    }
+
+    // Where the additional information stands: up to where the service information starts. It is not judged.
+    pub fn additional_info(self, data: &[u8]) -> View
+        ensures { λ r. ⌜ InfoPromise (now («data» .entry)) r ⌝ }
+    {
+        let behind = self.service_info(data);
+        if behind.number != 0 {
+            return behind;
+        }
+        View {
+            number: 0,
+            start: CEMIFrame::MIN_SIZE,
+            end: behind.start,
+        }
+    }
+
+    // What `additional_info` names, as a part that starts in the middle of the frame.
+    pub fn additional_info_part(self, data: &[u8]) -> &[u8]
+        ensures { λ r. ⌜ InfoPartPromise (now («data» .entry)) (now r) ⌝ }
+    {
+        let view = self.additional_info(data);
+        wire::part(data, view.start, view.end)
+    }
+
+    // A whole frame: the additional information has to be readable, the service information is not looked at.
+    pub fn build(self, additional_info: &[u8], service_info: &[u8], buf: &mut [u8]) -> Written
+        ensures { λ r. ⌜ BuildPromise self (now («additional_info» .entry)) (now («service_info» .entry)) (now (buf .entry)) r (now (buf .exit)) ⌝ }
+    {
+        match additional_info::judge(additional_info, 0) {
+            Verdict::Accept => {
+                let message_code = self.message_code;
+                let head = [message_code.to_u8(), additional_info.len() as u8];
+                wire::write3(&head, additional_info, service_info, buf)
+            }
+            Verdict::Refuse(why) => Written::Refused(why),
         }
     }
 }

@@ -3,7 +3,8 @@ use Prim.Native.Nat.{ℕ}
 use mathlib.Core.Path.{refl}
 use mathlib.Core.List.{List, [], _∷_, _++_}
 use lib.ListN.{replicate}
-use Rattle.wire.specs.declared.refusals.Written.the-variants.{Bytes}
+use Rattle.wire.specs.declared.refusals.Refusal.the-variants.{InvalidMessageCode}
+use Rattle.wire.specs.declared.refusals.Written.the-variants.{Bytes, Refused}
 use Rattle.constants.specs.MessageCodes.{messageOf}
 use Rattle.pci.specs.PciLaws.{tpciOf}
 use Rattle.tunnel.specs.declared.rules.Wait.the-variants.{First, Second}
@@ -12,10 +13,13 @@ use Rattle.tunnel_table.specs.declared.places.Place.{Place}
 use Rattle.tunnel_image.specs.Image as Image
 use Rattle.knx.specs.Reading as KnxReading
 use Rattle.knx.specs.CemiLData as CemiLData
+use Rattle.additional_info.specs.Area.{recordsIn, behind}
 use Rattle.knx.specs.Building as Building
+use Rattle.knx.specs.Info as KnxInfo
 use Rattle.knx.specs.Called as Called
 use Rattle.knx.specs.declared.building.KnxWritten.{KnxWritten}
 use Rattle.knx.specs.declared.building.KnxEndpoint.{KnxEndpoint}
+use Rattle.knx.specs.declared.info.KnxAdditionalInfo.{KnxAdditionalInfo}
 use Rattle.knx.specs.declared.called.KnxCalled.{KnxCalled}
 use Rattle.claims.specs.Layouts.{endpointBytes, nines, stamped}
 
@@ -85,6 +89,28 @@ reads = record {
   cemi-numbered = refl;
 }
 
+-- ---- additional information
+
+-- no record, and beside a number
+abbrev noInfo : ℕ → KnxAdditionalInfo
+noInfo n = record { start = 0; end = 0; timestamp = 0; found = 0; named = 0; «info_type» = 0; timestamped = 0; number = n }
+
+pub record Infos : Type 0 where
+  pub area : KnxInfo.AreaPromise stamped (record { start = 2; end = 4; number = 0 })
+  pub area-refused : KnxInfo.AreaPromise (0x13 ∷ 0x00 ∷ []) (record { start = 0; end = 0; number = 6 })
+  -- an extended timestamp of four bytes, then a type without a name
+  pub first : KnxInfo.FirstPromise (0x06 ∷ 0x04 ∷ 0x80 ∷ 0x01 ∷ 0x02 ∷ 0x03 ∷ 0x99 ∷ 0x01 ∷ 0xAA ∷ [])
+      (record { start = 2; end = 6; timestamp = 0x80010203; found = 1; named = 1; «info_type» = 6; timestamped = 1; number = 0 })
+  pub second : KnxInfo.NthPromise (0x06 ∷ 0x04 ∷ 0x80 ∷ 0x01 ∷ 0x02 ∷ 0x03 ∷ 0x99 ∷ 0x01 ∷ 0xAA ∷ []) 1
+      (record { start = 8; end = 9; timestamp = 0; found = 1; named = 0; «info_type» = 0x99; timestamped = 0; number = 0 })
+  pub none : KnxInfo.FirstPromise [] (noInfo 0)
+  pub refused : KnxInfo.FirstPromise (0x04 ∷ []) (noInfo 14)
+  pub two : KnxInfo.CountPromise (0x06 ∷ 0x00 ∷ 0x99 ∷ 0x01 ∷ 0xAA ∷ []) (record { count = 2; number = 0 })
+
+pub infos : Infos
+unfolding recordsIn behind
+infos = record { area = refl; area-refused = refl; first = refl; second = refl; none = refl; refused = refl; two = refl }
+
 -- ---- building
 
 abbrev control : KnxEndpoint
@@ -110,17 +136,24 @@ pub record Builds : Type 0 where
       (0x06 ∷ 0x10 ∷ 0x02 ∷ 0x09 ∷ 0x00 ∷ 0x10 ∷ 0x15 ∷ 0x00 ∷ endpointBytes ++ 9 ∷ 9 ∷ [])
   pub tunneling-request : Building.TunnelingRequestPromise 0x15 0x07 (0x29 ∷ 0x01 ∷ []) (nines ++ nines) (wrote 12)
       (0x06 ∷ 0x10 ∷ 0x04 ∷ 0x20 ∷ 0x00 ∷ 0x0C ∷ 0x04 ∷ 0x15 ∷ 0x07 ∷ 0x00 ∷ 0x29 ∷ 0x01 ∷ replicate 6 9)
+  pub info-append : KnxInfo.AppendPromise (0x99 ∷ 0x01 ∷ 0xAA ∷ []) 0x04 (0x12 ∷ 0x34 ∷ []) nines (wrote 7) (0x99 ∷ 0x01 ∷ 0xAA ∷ 0x04 ∷ 0x02 ∷ 0x12 ∷ 0x34 ∷ 9 ∷ 9 ∷ [])
+  -- L_Data.con around an area and three bytes; a code that is none of the seven is 6 before the area's 14
+  pub cemi-build : KnxInfo.BuildPromise 0x2E (0x99 ∷ 0x01 ∷ 0xAA ∷ []) (0xBC ∷ 0xE0 ∷ 0x11 ∷ []) nines (wrote 8) (0x2E ∷ 0x03 ∷ 0x99 ∷ 0x01 ∷ 0xAA ∷ 0xBC ∷ 0xE0 ∷ 0x11 ∷ 9 ∷ [])
+  pub cemi-code : KnxInfo.BuildPromise 0x13 (0x99 ∷ []) [] [] (record { count = 0; number = 6 }) []
   pub tunneling-ack : Building.TunnelingAckPromise 0x15 0x07 0x29 (nines ++ nines) (wrote 11)
       (0x06 ∷ 0x10 ∷ 0x04 ∷ 0x21 ∷ 0x00 ∷ 0x0B ∷ 0x04 ∷ 0x15 ∷ 0x07 ∷ 0x00 ∷ 0x29 ∷ replicate 7 9)
 
 pub builds : Builds
-unfolding tpciOf
+unfolding tpciOf recordsIn behind
 builds = record {
   ldata = record { answer = Bytes 10; keeps = (refl, refl); tells = refl };
   connect-request = record { answer = Bytes 26; keeps = (refl, refl); tells = refl };
   state-request = record { answer = Bytes 16; keeps = (refl, refl); tells = refl };
   disconnect-request = record { answer = Bytes 16; keeps = (refl, refl); tells = refl };
   tunneling-request = record { answer = Bytes 12; keeps = (refl, refl); tells = refl };
+  info-append = record { answer = Bytes 7; keeps = (refl, refl); tells = refl };
+  cemi-build = record { answer = Bytes 8; keeps = (refl, refl); tells = refl };
+  cemi-code = record { answer = Refused InvalidMessageCode; keeps = (refl, refl); tells = refl };
   tunneling-ack = record { answer = Bytes 11; keeps = (refl, refl); tells = refl };
 }
 

@@ -1,15 +1,16 @@
--- Demand 1: a number other than 0 is one of 1 to 13, comes with zeros and an empty view, and changes no lent byte. One theorem for each public function that can refuse, under its name, over the promise that its contract names; at the end the functions that refuse nothing. That nothing faults, wraps or hangs is the gate's verdict on functions without a `requires`.
+-- Demand 1: a number other than 0 is one of 1 to 14, comes with zeros and an empty view, and changes no lent byte. One theorem for each public function that can refuse, under its name, over the promise that its contract names; at the end the functions that refuse nothing. That nothing faults, wraps or hangs is the gate's verdict on functions without a `requires`.
 use Prim.Native.Nat.{ℕ, _+_}
-use mathlib.Core.Path.{_≡_, refl, _∙_}
+use mathlib.Core.Path.{_≡_, refl, ap, _∙_}
 use mathlib.Core.List.{List, [], _∷_, _++_}
 use lib.ListN.{length}
-use Rattle.wire.specs.Told.{done, refused, viewed, verdict}
+use Rattle.wire.specs.Told.{done, refused, viewed, verdict, answer}
 use Rattle.wire.specs.Layout.{get}
-use Rattle.wire.specs.Writing.{WritePromise, room}
+use Rattle.wire.specs.Writing.{WritePromise, Write3Promise, room}
 use Rattle.wire.specs.Writing as Writing
 use Rattle.wire.specs.Parts as Parts
 use Rattle.wire.specs.PartLaws.{shown-refused}
 use Rattle.wire.specs.declared.refusals.Refusal.{Refusal}
+use Rattle.wire.specs.declared.refusals.Verdict.{Verdict}
 use Rattle.wire.specs.declared.refusals.Verdict.the-variants.{Refuse}
 use Rattle.wire.specs.Format.{checksOf}
 use Rattle.wire.specs.Refusing.{Zeros, Refusing, Leaves, refused-zeros, judged-refusing, writes-refusing}
@@ -29,6 +30,13 @@ use Rattle.ldata.specs.Builder as LDataBuilder
 use Rattle.ldata.specs.declared.ldata.LDataFields.{LDataFields}
 use Rattle.ldata.specs.declared.ldata.LDataAnswer.{LDataAnswer}
 use Rattle.ldata.specs.declared.builder.LDataBuilder.{LDataBuilder}
+use Rattle.additional_info.specs.InfoType as InfoType
+use Rattle.additional_info.specs.Area as Area
+use Rattle.additional_info.specs.AreaLaws.{first-refusing, nth-refusing}
+use Rattle.additional_info.specs.Appending as Appending
+use Rattle.additional_info.specs.declared.info_type.AdditionalInfoType.{AdditionalInfoType}
+use Rattle.additional_info.specs.declared.area.AdditionalInfoAnswer.{AdditionalInfoAnswer}
+use Rattle.additional_info.specs.declared.area.CountAnswer.{CountAnswer}
 use Rattle.cemi.specs.Cemi as Cemi
 use Rattle.cemi.specs.declared.CEMIFrame.{CEMIFrame}
 use Rattle.cemi.specs.declared.CEMIAnswer.{CEMIAnswer}
@@ -101,12 +109,16 @@ use Rattle.knx.specs.Reading as KnxReading
 use Rattle.knx.specs.CemiLData as CemiLData
 use Rattle.knx.specs.Building as Building
 use Rattle.knx.specs.BuildingLaws.{tells-refusing}
+use Rattle.knx.specs.Info as KnxInfo
 use Rattle.knx.specs.Called as Called
 use Rattle.knx.specs.CalledLaws as CalledLaws
 use Rattle.knx.specs.declared.reading.KnxFrame.{KnxFrame}
 use Rattle.knx.specs.declared.reading.KnxHpai.{KnxHpai}
 use Rattle.knx.specs.declared.reading.KnxConnectResponse.{KnxConnectResponse}
 use Rattle.knx.specs.declared.cemi_ldata.KnxLData.{KnxLData}
+use Rattle.knx.specs.declared.info.KnxPart.{KnxPart}
+use Rattle.knx.specs.declared.info.KnxAdditionalInfo.{KnxAdditionalInfo}
+use Rattle.knx.specs.declared.info.KnxCount.{KnxCount}
 use Rattle.knx.specs.declared.building.KnxWritten.{KnxWritten}
 use Rattle.knx.specs.declared.building.KnxEndpoint.{KnxEndpoint}
 use Rattle.knx.specs.declared.called.KnxCalled.{KnxCalled}
@@ -120,6 +132,10 @@ view-refused e r p = rw p (refused-zeros 0 e)
 -- wire::write
 pub write : (w b : List ℕ) (r : Written) (after : List ℕ) → WritePromise w b r after → Refusing (Writing.told r) × Leaves (Writing.told r) b after
 write w b = writes-refusing (room (length w) (length b) ∷ []) w b
+
+-- wire::write3
+pub write3 : (u v w b : List ℕ) (r : Written) (after : List ℕ) → Write3Promise u v w b r after → Refusing (Writing.told r) × Leaves (Writing.told r) b after
+write3 u v w = write (u ++ v ++ w)
 
 -- ---- constants
 
@@ -152,7 +168,43 @@ pub ldata-build : (b : LDataBuilder) (d buf : List ℕ) (r : Written) (after : L
     → LDataBuilder.BuildPromise b d buf r after → Refusing (Writing.told r) × Leaves (Writing.told r) buf after
 ldata-build b d buf = writes-refusing (LDataBuilder.checks b (length d) (length buf)) (LDataBuilder.layout b (length d + 2) d) buf
 
+-- ---- additional_info
+
+-- additional_info::AdditionalInfo::parse
+pub info-parse : (s : List ℕ) (r : AdditionalInfoAnswer) → Area.ParsePromise s r → Refusing (Area.told r)
+info-parse s r p = rw p (first-refusing s)
+
+-- additional_info::count
+pub info-count : (s : List ℕ) (r : CountAnswer) → Area.CountPromise s r → Refusing (Area.toldCount r)
+info-count s r = judged-refusing (Area.areaCheck s ∷ []) (done (length (Area.allIn s) ∷ [])) (Area.toldCount r) refl
+
+-- additional_info::nth
+pub info-nth : (s : List ℕ) (n : ℕ) (r : AdditionalInfoAnswer) → Area.NthPromise s n r → Refusing (Area.told r)
+info-nth s n r p = rw p (nth-refusing s n)
+
+-- additional_info::judge
+pub info-judge : (s : List ℕ) (n : ℕ) (r : Verdict) → Appending.JudgePromise s n r → Refusing (answer r (done []))
+info-judge s n r p = judged-refusing (Appending.areaChecks s n) (done []) (answer r (done [])) refl (ap (λ (v : Verdict). answer v (done [])) p)
+
+-- additional_info::append
+pub info-append : (s : List ℕ) (t : AdditionalInfoType) (d b : List ℕ) (r : Written) (after : List ℕ)
+    → Appending.AppendPromise s t d b r after → Refusing (Writing.told r) × Leaves (Writing.told r) b after
+info-append s t d b = writes-refusing (Appending.checks s (length d) (length b)) (Appending.appended s (record { code = InfoType.codeOf t; «data» = d })) b
+
 -- ---- cemi
+
+-- cemi::CEMIFrame::additional_info
+pub cemi-info : (s : List ℕ) (r : View) → Cemi.InfoPromise s r → Refusing (Parts.told r)
+cemi-info s r = judged-refusing (Cemi.checks s ++ Cemi.infoCheck s ∷ []) (viewed 2 (2 + Cemi.infoLength s)) (Parts.told r) refl
+
+-- cemi::CEMIFrame::additional_info_part
+pub cemi-info-part : (s r : List ℕ) (e : Refusal) → Cemi.InfoPartPromise s r → verdict (Cemi.checks s ++ Cemi.infoCheck s ∷ []) ≡ Refuse e → r ≡ []
+cemi-info-part s r e p q = p ∙ shown-refused (Cemi.checks s ++ Cemi.infoCheck s ∷ []) (viewed 2 (2 + Cemi.infoLength s)) e s q
+
+-- cemi::CEMIFrame::build
+pub cemi-build : (f : CEMIFrame) (area rest b : List ℕ) (r : Written) (after : List ℕ)
+    → Cemi.BuildPromise f area rest b r after → Refusing (Writing.told r) × Leaves (Writing.told r) b after
+cemi-build f area rest b = writes-refusing (Cemi.buildChecks area (length rest) (length b)) (Cemi.layout (MessageCodes.codeOf (f .«message_code»)) area rest) b
 
 -- cemi::CEMIFrame::parse
 pub cemi-parse : (s : List ℕ) (r : CEMIAnswer) → Cemi.ParsePromise s r → Refusing (Cemi.told r)
@@ -444,6 +496,22 @@ knx-connect-response s r = connect-response-parse s (KnxReading.responseAnswer r
 pub knx-cemi-ldata : (s : List ℕ) (r : KnxLData) → CemiLData.CemiLDataPromise s r → Refusing (CemiLData.told r)
 knx-cemi-ldata s r = judged-refusing (CemiLData.checks s) (CemiLData.ldataIn s) (CemiLData.told r) refl
 
+-- knx::knx_cemi_additional_info
+pub knx-cemi-info : (s : List ℕ) (r : KnxPart) → KnxInfo.AreaPromise s r → Refusing (KnxInfo.toldPart r)
+knx-cemi-info s r = judged-refusing (Cemi.checks s ++ Cemi.infoCheck s ∷ []) (viewed 2 (2 + Cemi.infoLength s)) (KnxInfo.toldPart r) refl
+
+-- knx::knx_additional_info
+pub knx-info : (s : List ℕ) (r : KnxAdditionalInfo) → KnxInfo.FirstPromise s r → Refusing (KnxInfo.told r)
+knx-info s r p = rw p (first-refusing s)
+
+-- knx::knx_additional_info_nth
+pub knx-info-nth : (s : List ℕ) (n : ℕ) (r : KnxAdditionalInfo) → KnxInfo.NthPromise s n r → Refusing (KnxInfo.told r)
+knx-info-nth s n r p = rw p (nth-refusing s n)
+
+-- knx::knx_additional_info_count
+pub knx-info-count : (s : List ℕ) (r : KnxCount) → KnxInfo.CountPromise s r → Refusing (KnxInfo.toldCount r)
+knx-info-count s r = judged-refusing (Area.areaCheck s ∷ []) (done (length (Area.allIn s) ∷ [])) (KnxInfo.toldCount r) refl
+
 abbrev pub ToldRefuses : List ℕ → KnxWritten → List ℕ → Type 0
 ToldRefuses b r after = Refusing (Building.told r) × Leaves (Building.told r) b after
 
@@ -484,6 +552,16 @@ pub knx-tunneling-ack : (channel sequence status : ℕ) (b : List ℕ) (r : KnxW
 knx-tunneling-ack channel sequence status b =
     let q = Building.ackOf channel sequence status in
     tells-refusing (TunnelingAck.BuildPromise q b) b (ack-build q b)
+
+-- knx::knx_additional_info_append
+pub knx-info-append : (s : List ℕ) (code : ℕ) (d b : List ℕ) (r : KnxWritten) (after : List ℕ) → KnxInfo.AppendPromise s code d b r after → ToldRefuses b r after
+knx-info-append s code d b = tells-refusing (Appending.AppendPromise s (InfoType.typeOf code) d b) b (info-append s (InfoType.typeOf code) d b)
+
+-- knx::knx_cemi_build
+pub knx-cemi-build : (code : ℕ) (area rest b : List ℕ) (r : KnxWritten) (after : List ℕ) → KnxInfo.BuildPromise code area rest b r after → ToldRefuses b r after
+knx-cemi-build code area rest b =
+    let cs = KnxInfo.buildChecks code area (length rest) (length b) in
+    tells-refusing (Writing.Writes cs (Cemi.layout code area rest) b) b (writes-refusing cs (Cemi.layout code area rest) b)
 
 -- knx::knx_table_empty
 pub knx-table-empty : (image : List ℕ) (r : KnxWritten) (after : List ℕ) → Called.EmptyPromise image r after → ToldRefuses image r after
@@ -579,6 +657,8 @@ knx-table-datagram bytes before image = knx-table-calls image (Datagram bytes be
 -- ldata::LDataFields::is_group_write
 -- ldata::LDataFields::is_group_read
 -- ldata::LDataFields::is_group_response
+-- additional_info::AdditionalInfoType::from_u8
+-- additional_info::AdditionalInfoType::to_u8
 -- cemi::CEMIFrame::message_code
 -- cemi::CEMIFrame::is_ldata
 -- header::KnxnetIpHeader::body_length
@@ -636,6 +716,7 @@ knx-table-datagram bytes before image = knx-table-calls image (Datagram bytes be
 -- variants::priority_of
 -- variants::apci
 -- variants::apci_of
+-- variants::info_type
 -- variants::kind
 -- variants::sequence
 -- variants::tpci_of

@@ -32,6 +32,12 @@ use Rattle.tunnel_model.specs.Calls.{Call, Open, Close, Timeout, Send, Datagram
 use Rattle.tunnel_model.specs.Table.{chan, emptyOf, tableOf}
 use Rattle.tunnel_table.specs.Places.{kind}
 use Rattle.tunnel_table.specs.declared.places.Place.{Place}
+use Rattle.additional_info.specs.Area.{Info}
+use Rattle.additional_info.specs.Area as Area
+use Rattle.additional_info.specs.AppendingLaws as AppendingLaws
+use Rattle.additional_info.specs.declared.info_type.AdditionalInfoType.{AdditionalInfoType}
+use Rattle.additional_info.specs.declared.info_type.AdditionalInfoType.the-variants as AdditionalInfoType
+use Rattle.claims.specs.AdditionalInfo.{infoTold, Appends}
 use Rattle.claims.specs.Demand2.{ReadsBack, header, Builds, ldataProper, ldataBytes, ldata, LDataBuilds}
 use Rattle.claims.specs.Examples.{request, room}
 
@@ -100,6 +106,19 @@ pub ldata-returns-fixed : (parse : List ℕ → Told) (t : Told) → ((s : List 
 ldata-returns-fixed parse t fixed reads =
     one-record ldataProper ldataBytes ldata parse reads (writing 0x94, []) (writing 0x95, []) t (writing-proper 0x94 9 (omega arith)) (writing-proper 0x95 9 (omega arith)) refl refl writings-differ fixed
 
+-- a record of a type without data
+abbrev bare : ℕ → Info
+bare code = record { code = code; «data» = [] }
+
+bares-differ : infoTold (bare 1) ≡ infoTold (bare 2) → ⊥
+bares-differ x = let y : _≡_ {A = ℕ} 1 2 = ap (λ (t : Told). getD (t .values) 2 0) x in omega arith
+
+pub info-refuses-everything : (parse : List ℕ → Told) → ((s : List ℕ) → parse s .number ≡ 0 → ⊥) → ReadsBack (λ (i : Info). Unit {0}) Area.layout infoTold parse → ⊥
+info-refuses-everything parse never reads = never-answers (λ (i : Info). Unit {0}) Area.layout infoTold parse reads (bare 1) tt refl never
+
+pub info-returns-fixed : (parse : List ℕ → Told) (t : Told) → ((s : List ℕ) → parse s .number ≡ 0 → parse s ≡ t) → ReadsBack (λ (i : Info). Unit {0}) Area.layout infoTold parse → ⊥
+info-returns-fixed parse t fixed reads = one-record (λ (i : Info). Unit {0}) Area.layout infoTold parse reads (bare 1) (bare 2) t tt tt refl refl bares-differ fixed
+
 -- ---- builders
 
 abbrev zeros : List ℕ
@@ -114,6 +133,13 @@ writes-nothing tells f =
 pub ldata-writes-nothing : (tells : LDataBuilder → List ℕ → List ℕ → Told) → LDataBuilds tells (λ b d buf. buf) → ⊥
 ldata-writes-nothing tells f =
     let x : _≡_ {A = ℕ} 2 0 = ap (λ (t : Told). t .number) (f (writing 0x94) [] zeros (writing-proper 0x94 10 (omega arith)) .1 .fields-back) in
+    omega arith
+
+-- a writer of additional information that writes nothing: of ten zeros the first two are a record of type 0, not 1
+pub append-writes-nothing : (tells : List ℕ → AdditionalInfoType → List ℕ → List ℕ → Told) → Appends tells (λ s t d b. b) → ⊥
+append-writes-nothing tells f =
+    let x = f [] AdditionalInfoType.PlMediumInfo [] zeros AppendingLaws.empty-readable (omega arith) (omega arith) .1 in
+    let y : _≡_ {A = ℕ} 0 1 = ap (λ (l : List ℕ). getD l 0 0) (x .copied) in
     omega arith
 
 -- any builder that reports more than stands changed: the last byte that it reports is as it was

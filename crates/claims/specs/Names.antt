@@ -3,7 +3,7 @@ use Prim.Native.Nat.{ℕ}
 use mathlib.Core.Path.{_≡_, refl}
 use mathlib.Core.Bool.{true, false}
 use Rattle.wire.specs.Refusals.{NumberPromise}
-use Rattle.wire.specs.declared.refusals.Refusal.the-variants.{BufferTooSmall, InvalidFrame, UnsupportedVersion, UnsupportedServiceType, PayloadTooLarge, InvalidMessageCode, AlreadyOpen, TableFull, NotOpen, AwaitsAck, AwaitsNothing, NotForTunnels, FieldOutOfRange}
+use Rattle.wire.specs.declared.refusals.Refusal.the-variants.{BufferTooSmall, InvalidFrame, UnsupportedVersion, UnsupportedServiceType, PayloadTooLarge, InvalidMessageCode, AlreadyOpen, TableFull, NotOpen, AwaitsAck, AwaitsNothing, NotForTunnels, FieldOutOfRange, InvalidAdditionalInfo}
 use Rattle.constants.specs.Services as Services
 use Rattle.constants.specs.declared.services.ServiceType.the-variants as ServiceType
 use Rattle.constants.specs.declared.services.ServiceAnswer.the-variants as ServiceAnswer
@@ -26,11 +26,13 @@ use Rattle.ldata.specs.declared.ldata.LDataFields.{LDataFields}
 use Rattle.ldata.specs.declared.destination.GroupAddressAnswer.the-variants as GroupAddressAnswer
 use Rattle.ldata.specs.declared.destination.IndividualAddressAnswer.the-variants as IndividualAddressAnswer
 use Rattle.cemi.specs.Cemi as Cemi
+use Rattle.additional_info.specs.InfoType as InfoType
+use Rattle.additional_info.specs.declared.info_type.AdditionalInfoType.the-variants as AdditionalInfoType
 use Rattle.tunnel.specs.declared.rules.Said.the-variants as Said
 use Rattle.tunnel.specs.declared.rules.Wait.the-variants as Wait
 use Rattle.tunnel.specs.Numbers.{saidOf, waitNumber}
 
--- the numbers of 01's table
+-- the numbers of 01's table, and those that 02 adds
 pub record RefusalNumbers : Type 0 where
   pub too-small : NumberPromise BufferTooSmall 1
   pub invalid-frame : NumberPromise InvalidFrame 2
@@ -45,6 +47,7 @@ pub record RefusalNumbers : Type 0 where
   pub waits-for-nothing : NumberPromise AwaitsNothing 11
   pub not-for-tunnels : NumberPromise NotForTunnels 12
   pub out-of-range : NumberPromise FieldOutOfRange 13
+  pub additional-info : NumberPromise InvalidAdditionalInfo 14
 
 pub refusal-numbers : RefusalNumbers
 refusal-numbers = record {
@@ -61,6 +64,7 @@ refusal-numbers = record {
   waits-for-nothing = refl;
   not-for-tunnels = refl;
   out-of-range = refl;
+  additional-info = refl;
 }
 
 -- what `from_u16` answers to each code of 01, and to two that the published crate knows
@@ -132,6 +136,39 @@ pub record PriorityNames : Type 0 where
 
 pub priorities : PriorityNames
 priorities = record { system = refl; normal = refl; urgent = refl; low = refl; four = refl }
+
+-- the types of additional information, as cemi.rs and 03_06_03 number them; any other is kept
+pub record InfoTypeNames : Type 0 where
+  pub pl-medium : InfoType.FromPromise 0x01 AdditionalInfoType.PlMediumInfo
+  pub rf-medium : InfoType.FromPromise 0x02 AdditionalInfoType.RfMediumInfo
+  pub busmonitor : InfoType.FromPromise 0x03 AdditionalInfoType.BusmonitorErrorFlags
+  pub relative-timestamp : InfoType.FromPromise 0x04 AdditionalInfoType.RelativeTimestamp
+  pub time-delay : InfoType.FromPromise 0x05 AdditionalInfoType.TimeDelay
+  pub extended-timestamp : InfoType.FromPromise 0x06 AdditionalInfoType.ExtendedRelativeTimestamp
+  pub bibat : InfoType.FromPromise 0x07 AdditionalInfoType.BiBatInfo
+  pub zero : InfoType.FromPromise 0x00 (AdditionalInfoType.Unknown 0x00)
+  pub eight : InfoType.FromPromise 0x08 (AdditionalInfoType.Unknown 0x08)
+  pub other : InfoType.FromPromise 0x99 (AdditionalInfoType.Unknown 0x99)
+  pub back-relative : InfoType.ToPromise AdditionalInfoType.RelativeTimestamp 0x04
+  pub back-extended : InfoType.ToPromise AdditionalInfoType.ExtendedRelativeTimestamp 0x06
+  pub back-other : InfoType.ToPromise (AdditionalInfoType.Unknown 0x99) 0x99
+
+pub info-types : InfoTypeNames
+info-types = record {
+  pl-medium = refl;
+  rf-medium = refl;
+  busmonitor = refl;
+  relative-timestamp = refl;
+  time-delay = refl;
+  extended-timestamp = refl;
+  bibat = refl;
+  zero = refl;
+  eight = refl;
+  other = refl;
+  back-relative = refl;
+  back-extended = refl;
+  back-other = refl;
+}
 
 -- ---- control fields, bit by bit
 

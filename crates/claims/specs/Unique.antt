@@ -4,7 +4,7 @@ use mathlib.Core.Path.{_≡_}
 use mathlib.Core.List.{List, _++_, []}
 use Rattle.wire.specs.Refusals.{NumberPromise}
 use Rattle.wire.specs.Layout.{WordPromise, HighPromise, LowPromise, ByteAtPromise, WordAtPromise, CopyPromise}
-use Rattle.wire.specs.Writing.{WritePromise}
+use Rattle.wire.specs.Writing.{WritePromise, Write3Promise}
 use Rattle.wire.specs.Parts.{RefusedPromise, PartPromise}
 use Rattle.wire.specs.ToldLaws.{same}
 use Rattle.wire.specs.WritingLaws.{write-one}
@@ -30,8 +30,14 @@ use Rattle.ldata.specs.LData as LData
 use Rattle.ldata.specs.LDataLaws as LDataLaws
 use Rattle.ldata.specs.Builder as LDataBuilder
 use Rattle.ldata.specs.BuilderLaws as LDataBuilderLaws
+use Rattle.additional_info.specs.InfoType as InfoType
+use Rattle.additional_info.specs.Area as Area
+use Rattle.additional_info.specs.AreaLaws as AreaLaws
+use Rattle.additional_info.specs.Appending as Appending
+use Rattle.additional_info.specs.AppendingLaws as AppendingLaws
 use Rattle.cemi.specs.Cemi as Cemi
 use Rattle.cemi.specs.CemiLaws as CemiLaws
+use Rattle.cemi.specs.InfoLaws as CemiInfoLaws
 use Rattle.header.specs.Header as Header
 use Rattle.header.specs.HeaderLaws as HeaderLaws
 use Rattle.frame.specs.Frame as Frame
@@ -103,6 +109,8 @@ use Rattle.knx.specs.CemiLData as CemiLData
 use Rattle.knx.specs.CemiLDataLaws as CemiLDataLaws
 use Rattle.knx.specs.Building as Building
 use Rattle.knx.specs.BuildingLaws as BuildingLaws
+use Rattle.knx.specs.Info as KnxInfo
+use Rattle.knx.specs.InfoLaws as KnxInfoLaws
 use Rattle.knx.specs.Called as Called
 use Rattle.knx.specs.CalledLaws as CalledLaws
 use Rattle.knx.specs.declared.building.KnxWritten.{KnxWritten}
@@ -172,6 +180,10 @@ copy-at src dst at after later = same
 -- wire::write
 pub write : Lent WritePromise
 write = write-one
+
+-- wire::write3
+pub write3 : Lent₃ Write3Promise
+write3 u v w = write-one (u ++ v ++ w)
 
 -- ---- address
 
@@ -387,7 +399,49 @@ ldata-is-group-response f r q = same
 pub ldata-build : Lent₂ LDataBuilder.BuildPromise
 ldata-build = LDataBuilderLaws.build-one
 
+-- ---- additional_info
+
+-- additional_info::AdditionalInfoType::from_u8
+pub info-type-from : One InfoType.FromPromise
+info-type-from n r q = same
+
+-- additional_info::AdditionalInfoType::to_u8
+pub info-type-to : One InfoType.ToPromise
+info-type-to t r q = same
+
+-- additional_info::AdditionalInfo::parse
+pub info-parse : One Area.ParsePromise
+info-parse = AreaLaws.parse-one
+
+-- additional_info::count
+pub info-count : One Area.CountPromise
+info-count = AreaLaws.count-one
+
+-- additional_info::nth
+pub info-nth : One₂ Area.NthPromise
+info-nth = AreaLaws.nth-one
+
+-- additional_info::judge
+pub info-judge : One₂ Appending.JudgePromise
+info-judge s n r q = same
+
+-- additional_info::append
+pub info-append : Lent₃ Appending.AppendPromise
+info-append = AppendingLaws.append-one
+
 -- ---- cemi
+
+-- cemi::CEMIFrame::additional_info
+pub cemi-info : One Cemi.InfoPromise
+cemi-info = CemiInfoLaws.info-one
+
+-- cemi::CEMIFrame::additional_info_part
+pub cemi-info-part : One Cemi.InfoPartPromise
+cemi-info-part s r q = same
+
+-- cemi::CEMIFrame::build
+pub cemi-build : Lent₃ Cemi.BuildPromise
+cemi-build = CemiInfoLaws.build-one
 
 -- cemi::CEMIFrame::parse
 pub cemi-parse : One Cemi.ParsePromise
@@ -828,6 +882,30 @@ knx-connect-response = KnxReadingLaws.connect-response-one
 pub knx-cemi-ldata : One CemiLData.CemiLDataPromise
 knx-cemi-ldata = CemiLDataLaws.cemi-ldata-one
 
+-- knx::knx_cemi_additional_info
+pub knx-cemi-info : One KnxInfo.AreaPromise
+knx-cemi-info = KnxInfoLaws.area-one
+
+-- knx::knx_additional_info
+pub knx-info : One KnxInfo.FirstPromise
+knx-info = KnxInfoLaws.first-one
+
+-- knx::knx_additional_info_nth
+pub knx-info-nth : One₂ KnxInfo.NthPromise
+knx-info-nth = KnxInfoLaws.nth-one
+
+-- knx::knx_additional_info_count
+pub knx-info-count : One KnxInfo.CountPromise
+knx-info-count = KnxInfoLaws.count-one
+
+-- knx::knx_additional_info_append
+pub knx-info-append : Lent₃ KnxInfo.AppendPromise
+knx-info-append = KnxInfoLaws.append-one
+
+-- knx::knx_cemi_build
+pub knx-cemi-build : Lent₃ KnxInfo.BuildPromise
+knx-cemi-build = KnxInfoLaws.build-one
+
 -- knx::knx_ldata_build
 pub knx-ldata-build : (control-1 control-2 source destination tpci code six : ℕ) → Lent (Building.LDataBuildPromise control-1 control-2 source destination tpci code six)
 knx-ldata-build = BuildingLaws.ldata-build-one
@@ -955,6 +1033,10 @@ variants-apci a r q = same
 -- variants::apci_of
 pub variants-apci-of : One₂ Variants.ApciOfPromise
 variants-apci-of a b r q = same
+
+-- variants::info_type
+pub variants-info-type : One Variants.InfoTypePromise
+variants-info-type t r q = same
 
 -- variants::kind
 pub variants-kind : One Variants.KindPromise

@@ -2,9 +2,11 @@
 pub mod Reading
 pub mod CemiLData
 pub mod Building
+pub mod Info
 pub mod Called
 pub mod ReadingLaws
 pub mod CemiLDataLaws
 pub mod BuildingLaws
+pub mod InfoLaws
 pub mod CalledLaws
 pub mod Runs

@@ -2,12 +2,16 @@
 mod building;
 mod called;
 mod cemi_ldata;
+mod info;
 mod reading;
 
 pub use building::KnxEndpoint;
 pub use building::KnxWritten;
 pub use called::KnxCalled;
 pub use cemi_ldata::KnxLData;
+pub use info::KnxAdditionalInfo;
+pub use info::KnxCount;
+pub use info::KnxPart;
 pub use reading::KnxConnectResponse;
 pub use reading::KnxFrame;
 pub use reading::KnxHpai;

@@ -4,7 +4,10 @@ use mathlib.Core.Path.{_≡_}
 use mathlib.Core.List.{List, [], _∷_}
 use Rattle.wire.specs.Coding.{variantIn}
 use Rattle.wire.specs.declared.refusals.Refusal.{Refusal}
-use Rattle.wire.specs.declared.refusals.Refusal.the-variants.{BufferTooSmall, InvalidFrame, UnsupportedVersion, UnsupportedServiceType, PayloadTooLarge, InvalidMessageCode, AlreadyOpen, TableFull, NotOpen, AwaitsAck, AwaitsNothing, NotForTunnels, FieldOutOfRange}
+use Rattle.wire.specs.declared.refusals.Refusal.the-variants.{BufferTooSmall, InvalidFrame, UnsupportedVersion, UnsupportedServiceType, PayloadTooLarge, InvalidMessageCode, AlreadyOpen, TableFull, NotOpen, AwaitsAck, AwaitsNothing, NotForTunnels, FieldOutOfRange, InvalidAdditionalInfo}
+use Rattle.additional_info.specs.declared.info_type.AdditionalInfoType.{AdditionalInfoType}
+use Rattle.additional_info.specs.declared.info_type.AdditionalInfoType.the-variants.{PlMediumInfo, RfMediumInfo, BusmonitorErrorFlags, RelativeTimestamp, TimeDelay, ExtendedRelativeTimestamp, BiBatInfo}
+use Rattle.additional_info.specs.declared.info_type.AdditionalInfoType.the-variants as AdditionalInfoType
 use Rattle.constants.specs.declared.services.ServiceType.{ServiceType}
 use Rattle.constants.specs.declared.services.ServiceType.the-variants.{ConnectRequest, ConnectResponse, ConnectionstateRequest, ConnectionstateResponse, DisconnectRequest, DisconnectResponse, TunnellingRequest, TunnellingAck}
 use Rattle.constants.specs.declared.message_codes.CEMIMessageCode.{CEMIMessageCode}
@@ -119,7 +122,22 @@ SequencePromise t r = r ≡ sequenceNumber t
 abbrev pub TpciOfPromise : ℕ → ℕ → Tpci → Type 0
 TpciOfPromise kind sequence r = r ≡ variantIn (numbered 0 (UnnumberedData ∷ NumberedData sequence ∷ UnnumberedControl ∷ [])) (NumberedControl sequence) kind
 
--- ---- refusals, by 01's numbers
+-- ---- types of additional information: 0 is `Unknown`, whatever its code
+
+abbrev pub infoTypeNumber : AdditionalInfoType → ℕ
+infoTypeNumber PlMediumInfo = 1
+infoTypeNumber RfMediumInfo = 2
+infoTypeNumber BusmonitorErrorFlags = 3
+infoTypeNumber RelativeTimestamp = 4
+infoTypeNumber TimeDelay = 5
+infoTypeNumber ExtendedRelativeTimestamp = 6
+infoTypeNumber BiBatInfo = 7
+infoTypeNumber (AdditionalInfoType.Unknown code) = 0
+
+abbrev pub InfoTypePromise : AdditionalInfoType → ℕ → Type 0
+InfoTypePromise t r = r ≡ infoTypeNumber t
+
+-- ---- refusals, by 01's and 02's numbers
 
 abbrev pub RefusalOfPromise : ℕ → Refusal → Type 0
-RefusalOfPromise n r = r ≡ variantIn (numbered 1 (BufferTooSmall ∷ InvalidFrame ∷ UnsupportedVersion ∷ UnsupportedServiceType ∷ PayloadTooLarge ∷ InvalidMessageCode ∷ AlreadyOpen ∷ TableFull ∷ NotOpen ∷ AwaitsAck ∷ AwaitsNothing ∷ NotForTunnels ∷ [])) FieldOutOfRange n
+RefusalOfPromise n r = r ≡ variantIn (numbered 1 (BufferTooSmall ∷ InvalidFrame ∷ UnsupportedVersion ∷ UnsupportedServiceType ∷ PayloadTooLarge ∷ InvalidMessageCode ∷ AlreadyOpen ∷ TableFull ∷ NotOpen ∷ AwaitsAck ∷ AwaitsNothing ∷ NotForTunnels ∷ FieldOutOfRange ∷ [])) InvalidAdditionalInfo n

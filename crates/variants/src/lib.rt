@@ -1,5 +1,6 @@
-// The variants by the numbers that recorded calls and their lines have for them, 1 and up in the order of 01, for APCI in that of cemi.rs. They are no codes of KNX: each has a match of its own, so that two variants in each other's place are seen.
-ghost use Rattle.variants.specs.Variants.{ServicePromise, ServiceOfPromise, MessageCodePromise, MessageCodeOfPromise, PriorityPromise, PriorityOfPromise, ApciPromise, ApciOfPromise, KindPromise, SequencePromise, TpciOfPromise, RefusalOfPromise};
+// The variants by the numbers that recorded calls and their lines have for them, 1 and up in the order of 01, for APCI and additional information in that of cemi.rs. They are no codes of KNX: each has a match of its own, so that two variants in each other's place are seen.
+ghost use Rattle.variants.specs.Variants.{ServicePromise, ServiceOfPromise, MessageCodePromise, MessageCodeOfPromise, PriorityPromise, PriorityOfPromise, ApciPromise, ApciOfPromise, InfoTypePromise, KindPromise, SequencePromise, TpciOfPromise, RefusalOfPromise};
+use additional_info::AdditionalInfoType;
 use constants::CEMIMessageCode;
 use constants::Priority;
 use constants::ServiceType;
@@ -167,6 +168,22 @@ pub fn tpci_of(kind: u8, sequence: u8) -> Tpci
     }
 }
 
+// 0 for `Unknown`, whatever its code.
+pub fn info_type(info_type: AdditionalInfoType) -> usize
+    ensures { λ r. ⌜ InfoTypePromise «info_type» r ⌝ }
+{
+    match info_type {
+        AdditionalInfoType::Unknown(_) => 0,
+        AdditionalInfoType::PlMediumInfo => 1,
+        AdditionalInfoType::RfMediumInfo => 2,
+        AdditionalInfoType::BusmonitorErrorFlags => 3,
+        AdditionalInfoType::RelativeTimestamp => 4,
+        AdditionalInfoType::TimeDelay => 5,
+        AdditionalInfoType::ExtendedRelativeTimestamp => 6,
+        AdditionalInfoType::BiBatInfo => 7,
+    }
+}
+
 pub fn refusal_of(number: u8) -> Refusal
     ensures { λ r. ⌜ RefusalOfPromise number r ⌝ }
 {
@@ -183,6 +200,7 @@ pub fn refusal_of(number: u8) -> Refusal
         10 => Refusal::AwaitsAck,
         11 => Refusal::AwaitsNothing,
         12 => Refusal::NotForTunnels,
-        _ => Refusal::FieldOutOfRange,
+        13 => Refusal::FieldOutOfRange,
+        _ => Refusal::InvalidAdditionalInfo,
     }
 }

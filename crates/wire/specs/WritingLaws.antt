@@ -1,11 +1,11 @@
 -- What every encoder and builder promises has no second answer, and what it wrote stands in the buffer. Assumes nothing.
 use Prim.Native.Nat.{ℕ}
-use mathlib.Core.Path.{_≡_, refl, ap, _∙_}
-use mathlib.Core.List.{List, [], _∷_}
+use mathlib.Core.Path.{_≡_, refl, sym, ap, _∙_}
+use mathlib.Core.List.{List, [], _∷_, _++_}
 use lib.ListN.{length, getD}
 use Rattle.wire.specs.Told.{Told, done, Check, verdict, answer, lent}
-use Rattle.wire.specs.ToldLaws.{was-accepted, was-refused, let-through, same, one-to-one, answerOf, back-refused}
-use Rattle.wire.specs.Writing.{told, onto, Writes, room, WritePromise}
+use Rattle.wire.specs.ToldLaws.{stays, goes-on, let-refuse, was-accepted, was-refused, let-through, same, one-to-one, answerOf, back-refused}
+use Rattle.wire.specs.Writing.{told, onto, Writes, room, WritePromise, Write3Promise}
 use Rattle.wire.specs.declared.refusals.Refusal.{Refusal}
 use Rattle.wire.specs.declared.refusals.Verdict.{Verdict}
 use Rattle.wire.specs.declared.refusals.Verdict.the-variants.{Accept, Refuse}
@@ -59,3 +59,20 @@ pub writes-as : (cs ds : List Check) (w v b : List ℕ) (r : Written) (after : L
 writes-as cs ds w v b r after e f x =
     let t : Verdict → List ℕ → Told = λ a l. answer a (done (length l ∷ [])) in
     (x .0 ∙ ap (λ (a : Verdict). t a w) e ∙ ap (t (verdict ds)) f, x .1 ∙ ap (λ (a : Verdict). lent a b (onto b w)) e ∙ ap (λ (l : List ℕ). lent (verdict ds) b (onto b l)) f)
+
+-- checks that hold, before those by which it was written
+pub writes-behind : (cs ds : List Check) (w b : List ℕ) (r : Written) (after : List ℕ) → verdict cs ≡ Accept → Writes ds w b r after → Writes (cs ++ ds) w b r after
+writes-behind cs ds w b r after q = writes-as ds (cs ++ ds) w w b r after (sym (goes-on cs ds q)) refl
+
+-- checks of which one refuses, before any others
+pub refuses-before : (cs ds : List Check) (w b : List ℕ) (e : Refusal) → verdict cs ≡ Refuse e → Writes (cs ++ ds) w b (Refused e) b
+refuses-before cs ds w b e q =
+    let v : verdict (cs ++ ds) ≡ Refuse e = stays cs ds e q in
+    (sym (let-refuse (cs ++ ds) (done (length w ∷ [])) e v), ap (λ (x : Verdict). lent x b (onto b w)) (sym v))
+
+-- three pieces written behind checks that hold are what they make together, of n bytes
+pub pieces : (cs : List Check) (u v w whole b : List ℕ) (n : ℕ) (r : Written) (after : List ℕ) → verdict cs ≡ Accept → u ++ v ++ w ≡ whole → length whole ≡ n
+    → Write3Promise u v w b r after → Writes (cs ++ room n (length b) ∷ []) whole b r after
+pieces cs u v w whole b n r after q e many p =
+    writes-behind cs (room n (length b) ∷ []) whole b r after q
+    (writes-as (room (length (u ++ v ++ w)) (length b) ∷ []) (room n (length b) ∷ []) (u ++ v ++ w) whole b r after (ap (λ (k : ℕ). verdict (room k (length b) ∷ [])) (ap length e ∙ many)) e p)
