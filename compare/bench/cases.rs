@@ -3,7 +3,7 @@
 use crate::inputs::{self, lay_out, Inputs, CALLS};
 use crate::random::Rng;
 use original::border::declared::*;
-use original::border::{KnxCalled, KnxWritten};
+use original::border::{KnxAdditionalInfo, KnxCalled, KnxWritten};
 use original::tunnel_table::Table;
 use original::*;
 use std::fmt::Debug;
@@ -67,6 +67,35 @@ impl<R: Debug + PartialEq> Work for Reads<R> {
     }
 }
 
+/// Of an area and how many records stand before the one asked for.
+type Nth = unsafe extern "C" fn(*const u8, usize, usize) -> KnxAdditionalInfo;
+
+const NTH: [Nth; 2] = [rust_additional_info_nth, knx_additional_info_nth];
+
+struct Nths {
+    asked: Vec<(&'static [u8], usize)>,
+}
+
+impl Work for Nths {
+    fn calls(&self) -> usize {
+        self.asked.len()
+    }
+
+    fn batch(&mut self, side: usize) {
+        let nth = black_box(NTH[side]);
+        for &(area, n) in &self.asked {
+            black_box(unsafe { nth(area.as_ptr(), area.len(), n) });
+        }
+    }
+
+    fn compare(&mut self) {
+        for &(area, n) in &self.asked {
+            let [a, b] = NTH.map(|nth| unsafe { nth(area.as_ptr(), area.len(), n) });
+            assert_eq!(a, b, "{n} of {area:02x?}");
+        }
+    }
+}
+
 // Building
 
 /// Of channel, sequence, cEMI, buffer
@@ -76,6 +105,14 @@ type Request = unsafe extern "C" fn(u8, u8, *const u8, usize, *mut u8, usize) ->
 #[rustfmt::skip]
 type LDataBuild =
     unsafe extern "C" fn(u8, u8, u16, u16, u8, u16, u8, *const u8, usize, *mut u8, usize) -> KnxWritten;
+
+/// Of an area, type, data, buffer
+type Append =
+    unsafe extern "C" fn(*const u8, usize, u8, *const u8, usize, *mut u8, usize) -> KnxWritten;
+
+/// Of message code, area, service information, buffer
+type CemiBuild =
+    unsafe extern "C" fn(u8, *const u8, usize, *const u8, usize, *mut u8, usize) -> KnxWritten;
 
 const ROOM: usize = 600;
 
@@ -99,6 +136,23 @@ impl Build for LDataBuild {
     fn build(self, data: &[u8], out: &mut [u8]) -> KnxWritten {
         let (data, length, out, room) = (data.as_ptr(), data.len(), out.as_mut_ptr(), out.len());
         unsafe { self(0x94, 0xE0, 0x1105, 0x0803, 0, 0x080, 1, data, length, out, room) }
+    }
+}
+
+/// A relative timestamp as an area of its own: type, length, value.
+static TIMESTAMP: [u8; 4] = [4, 2, 0x12, 0x34];
+
+impl Build for Append {
+    fn build(self, area: &[u8], out: &mut [u8]) -> KnxWritten {
+        let (area, length, out, room) = (area.as_ptr(), area.len(), out.as_mut_ptr(), out.len());
+        unsafe { self(area, length, TIMESTAMP[0], TIMESTAMP[2..].as_ptr(), 2, out, room) }
+    }
+}
+
+impl Build for CemiBuild {
+    fn build(self, rest: &[u8], out: &mut [u8]) -> KnxWritten {
+        let (rest, length, out, room) = (rest.as_ptr(), rest.len(), out.as_mut_ptr(), out.len());
+        unsafe { self(0x29, TIMESTAMP.as_ptr(), TIMESTAMP.len(), rest, length, out, room) }
     }
 }
 
@@ -228,6 +282,8 @@ pub fn all() -> Vec<Case> {
     let mut cases = reading();
     cases.extend(building());
     cases.extend(tunnelling());
+    cases.extend(reading_areas());
+    cases.extend(building_areas());
     cases
 }
 
@@ -303,5 +359,46 @@ fn tunnelling() -> Vec<Case> {
         case("datagram, duplicate", "60 ns", function, datagrams(idle, 1, duplicate, false)),
         case("datagram, sent", "60 ns", function, datagrams(waiting, calls, acknowledge, false)),
         case("datagram, refused", "10 ns", function, datagrams(idle, 1, refused, true)),
+    ]
+}
+
+fn reading_areas() -> Vec<Case> {
+    let rng = &mut Rng::new(4);
+    let frames = lay_out(CALLS, |_| inputs::cemi(rng));
+    let timestamps = lay_out(CALLS, |_| inputs::timestamp(rng));
+    let mixed = lay_out(CALLS, |_| inputs::gateway_area(rng));
+    let few = lay_out(CALLS, |_| inputs::area(rng, 1, 4));
+    let asked = few.iter().map(|&area| (area, rng.below(4))).collect();
+    let many = lay_out(CALLS / 8, |_| (0..127).flat_map(|_| [rng.byte(), 0]).collect());
+    let sides = [rust_cemi_additional_info, knx_cemi_additional_info];
+    let area = Reads { sides, inputs: frames };
+    let record = |inputs| Reads { sides: [rust_additional_info, knx_additional_info], inputs };
+    let sides = [rust_additional_info_count, knx_additional_info_count];
+    let count = |inputs| Reads { sides, inputs };
+    vec![
+        case("area of a cEMI frame", "", "cemi_additional_info", area),
+        case("info record, timestamp", "", "additional_info", record(timestamps)),
+        case("info record, mixed", "", "additional_info", record(mixed)),
+        case("info count, 1 to 4", "", "additional_info_count", count(few)),
+        case("info count, 127 empty", "", "additional_info_count", count(many)),
+        case("info n-th, of 1 to 4", "", "additional_info_nth", Nths { asked }),
+    ]
+}
+
+fn building_areas() -> Vec<Case> {
+    let rng = &mut Rng::new(5);
+    let areas = lay_out(CALLS, |_| inputs::area(rng, 0, 2));
+    // A frame has two bytes and a timestamp before its rest.
+    let rests = lay_out(CALLS, |_| {
+        let length = rng.between(11, 30) - 2 - TIMESTAMP.len();
+        rng.bytes(length)
+    });
+    let sides: [Append; 2] = [rust_additional_info_append, knx_additional_info_append];
+    let append = Builds { sides, bodies: areas, out: [0; ROOM] };
+    let sides: [CemiBuild; 2] = [rust_cemi_build, knx_cemi_build];
+    let build = Builds { sides, bodies: rests, out: [0; ROOM] };
+    vec![
+        case("info append, to 0 to 2", "", "additional_info_append", append),
+        case("cEMI build, 11 to 30", "", "cemi_build", build),
     ]
 }

@@ -75,6 +75,44 @@ pub fn cemi(rng: &mut Rng) -> Vec<u8> {
     cemi
 }
 
+/// A record of additional information.
+fn info(kind: u8, data: &[u8]) -> Vec<u8> {
+    [&[kind, data.len() as u8], data].concat()
+}
+
+/// What a gateway puts before an L_Data.
+pub fn timestamp(rng: &mut Rng) -> Vec<u8> {
+    info(4, &rng.bytes(2))
+}
+
+/// One in two a relative timestamp, one in four an extended one, else any type with up to 8 bytes.
+fn mixed_info(rng: &mut Rng) -> Vec<u8> {
+    match rng.below(4) {
+        0 => info(6, &rng.bytes(4)),
+        1 => {
+            let length = rng.below(9);
+            info(rng.byte(), &rng.bytes(length))
+        }
+        _ => timestamp(rng),
+    }
+}
+
+/// An area of so many mixed records.
+pub fn area(rng: &mut Rng, first: usize, last: usize) -> Vec<u8> {
+    let records = rng.between(first, last);
+    (0..records).flat_map(|_| mixed_info(rng)).collect()
+}
+
+/// One or two records; one area in sixteen is cut within the first.
+pub fn gateway_area(rng: &mut Rng) -> Vec<u8> {
+    let mut area = area(rng, 1, 2);
+    if rng.below(16) == 0 {
+        let data = usize::from(area[1]);
+        area.truncate(rng.between(1, 1 + data));
+    }
+    area
+}
+
 pub fn tunnel_request(rng: &mut Rng, id: u8, number: u8) -> Vec<u8> {
     frame(REQUEST, &[&[4, id, number, 0], &cemi(rng)[..]].concat())
 }

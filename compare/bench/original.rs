@@ -1,9 +1,11 @@
 // The other side: the published Rust behind the border's signatures, and, where it has no such call,
-// the comparison's own writing of document 01. Crate root: the published files stand beside it.
+// the comparison's own writing of document 01, for additional information that of info.rs. Crate root:
+// the published files stand beside it.
 
 pub mod addressing;
 pub mod border;
 pub mod error;
+pub mod info;
 pub mod ldata_builder;
 pub mod tunnel_table;
 
@@ -14,10 +16,15 @@ pub mod protocol {
     pub mod services;
 }
 
-use border::{KnxCalled, KnxConnectResponse, KnxFrame, KnxHpai, KnxLData, KnxWritten};
+use border::{
+    KnxAdditionalInfo, KnxCalled, KnxConnectResponse, KnxCount, KnxFrame, KnxHpai, KnxLData,
+    KnxPart, KnxWritten,
+};
 use error::{KnxError, Result};
+use info::Record;
 use ldata_builder::LDataBuilder;
 use protocol::cemi::{extract_6bit_value, Apci, CEMIFrame, Tpci};
+use protocol::constants::CEMIMessageCode;
 use protocol::frame::{Hpai, KnxnetIpFrame};
 use protocol::services::{ConnectResponse, ConnectionHeader, TunnelingRequest};
 use std::slice::{from_raw_parts, from_raw_parts_mut};
@@ -115,6 +122,61 @@ fn cemi_ldata(data: &[u8]) -> Result<KnxLData> {
     })
 }
 
+#[no_mangle]
+pub unsafe extern "C" fn rust_cemi_additional_info(data: *const u8, length: usize) -> KnxPart {
+    let data = from_raw_parts(data, length);
+    match CEMIFrame::parse(data).and_then(|cemi| Ok(place(cemi.service_info()?, data))) {
+        Ok((end, _)) => KnxPart { start: CEMIFrame::MIN_SIZE, end, number: 0 },
+        Err(error) => KnxPart { number: error.number(), ..KnxPart::default() },
+    }
+}
+
+#[no_mangle]
+pub unsafe extern "C" fn rust_additional_info(area: *const u8, length: usize) -> KnxAdditionalInfo {
+    let area = from_raw_parts(area, length);
+    record(info::first(area).map(|first| first.map(|(record, _)| record)), area)
+}
+
+#[no_mangle]
+pub unsafe extern "C" fn rust_additional_info_nth(
+    area: *const u8,
+    length: usize,
+    n: usize,
+) -> KnxAdditionalInfo {
+    let area = from_raw_parts(area, length);
+    record(info::nth(area, n), area)
+}
+
+#[inline(always)]
+fn record(answer: core::result::Result<Option<Record>, u8>, area: &[u8]) -> KnxAdditionalInfo {
+    match answer {
+        Ok(Some(record)) => {
+            let (start, end) = place(record.data, area);
+            let timestamp = record.timestamp();
+            KnxAdditionalInfo {
+                start,
+                end,
+                timestamp: timestamp.unwrap_or(0),
+                found: 1,
+                named: record.named().into(),
+                info_type: record.kind,
+                timestamped: timestamp.is_some().into(),
+                number: 0,
+            }
+        }
+        Ok(None) => KnxAdditionalInfo::default(),
+        Err(number) => KnxAdditionalInfo { number, ..KnxAdditionalInfo::default() },
+    }
+}
+
+#[no_mangle]
+pub unsafe extern "C" fn rust_additional_info_count(area: *const u8, length: usize) -> KnxCount {
+    match info::count(from_raw_parts(area, length)) {
+        Ok(count) => KnxCount { count, number: 0 },
+        Err(number) => KnxCount { count: 0, number },
+    }
+}
+
 fn written(answer: core::result::Result<usize, u8>) -> KnxWritten {
     match answer {
         Ok(count) => KnxWritten { count, number: 0 },
@@ -153,6 +215,38 @@ pub unsafe extern "C" fn rust_ldata_build(
     let (tpci, data) = (Tpci::from_byte(tpci), from_raw_parts(data, length));
     let builder = LDataBuilder { ctrl1, ctrl2, source, destination, tpci, apci, six_bits, data };
     written(builder.build(from_raw_parts_mut(out, room)))
+}
+
+#[no_mangle]
+pub unsafe extern "C" fn rust_additional_info_append(
+    area: *const u8,
+    area_length: usize,
+    info_type: u8,
+    data: *const u8,
+    length: usize,
+    out: *mut u8,
+    room: usize,
+) -> KnxWritten {
+    let (area, data) = (from_raw_parts(area, area_length), from_raw_parts(data, length));
+    written(info::append(area, info_type, data, from_raw_parts_mut(out, room)))
+}
+
+#[no_mangle]
+pub unsafe extern "C" fn rust_cemi_build(
+    message_code: u8,
+    area: *const u8,
+    area_length: usize,
+    rest: *const u8,
+    length: usize,
+    out: *mut u8,
+    room: usize,
+) -> KnxWritten {
+    let (area, rest) = (from_raw_parts(area, area_length), from_raw_parts(rest, length));
+    let out = from_raw_parts_mut(out, room);
+    written(match CEMIMessageCode::from_u8(message_code) {
+        Some(code) => info::build(code.to_u8(), area, rest, out),
+        None => Err(KnxError::InvalidMessageCode.number()),
+    })
 }
 
 fn called(answer: core::result::Result<Answer, u8>) -> KnxCalled {

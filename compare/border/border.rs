@@ -55,6 +55,34 @@ pub struct KnxLData {
 
 #[repr(C)]
 #[derive(Clone, Copy, Debug, Default, PartialEq)]
+pub struct KnxPart {
+    pub start: usize,
+    pub end: usize,
+    pub number: u8,
+}
+
+#[repr(C)]
+#[derive(Clone, Copy, Debug, Default, PartialEq)]
+pub struct KnxAdditionalInfo {
+    pub start: usize,
+    pub end: usize,
+    pub timestamp: u32,
+    pub found: u8,
+    pub named: u8,
+    pub info_type: u8,
+    pub timestamped: u8,
+    pub number: u8,
+}
+
+#[repr(C)]
+#[derive(Clone, Copy, Debug, Default, PartialEq)]
+pub struct KnxCount {
+    pub count: usize,
+    pub number: u8,
+}
+
+#[repr(C)]
+#[derive(Clone, Copy, Debug, Default, PartialEq)]
 pub struct KnxWritten {
     pub count: usize,
     pub number: u8,
@@ -86,6 +114,14 @@ pub mod declared {
         pub fn knx_hpai_parse(data: *const u8, data_length: usize) -> KnxHpai;
         pub fn knx_connect_response(body: *const u8, body_length: usize) -> KnxConnectResponse;
         pub fn knx_cemi_ldata(data: *const u8, data_length: usize) -> KnxLData;
+        pub fn knx_cemi_additional_info(data: *const u8, data_length: usize) -> KnxPart;
+        pub fn knx_additional_info(area: *const u8, area_length: usize) -> KnxAdditionalInfo;
+        pub fn knx_additional_info_nth(
+            area: *const u8,
+            area_length: usize,
+            n: usize,
+        ) -> KnxAdditionalInfo;
+        pub fn knx_additional_info_count(area: *const u8, area_length: usize) -> KnxCount;
         pub fn knx_ldata_build(
             control_1: u8,
             control_2: u8,
@@ -96,6 +132,24 @@ pub mod declared {
             six_bit: u8,
             data: *const u8,
             data_length: usize,
+            out: *mut u8,
+            out_length: usize,
+        ) -> KnxWritten;
+        pub fn knx_additional_info_append(
+            area: *const u8,
+            area_length: usize,
+            info_type: u8,
+            data: *const u8,
+            data_length: usize,
+            out: *mut u8,
+            out_length: usize,
+        ) -> KnxWritten;
+        pub fn knx_cemi_build(
+            message_code: u8,
+            additional_info: *const u8,
+            additional_info_length: usize,
+            service_info: *const u8,
+            service_info_length: usize,
             out: *mut u8,
             out_length: usize,
         ) -> KnxWritten;
@@ -175,6 +229,22 @@ pub fn cemi_ldata(data: &[u8]) -> KnxLData {
     unsafe { declared::knx_cemi_ldata(data.as_ptr(), data.len()) }
 }
 
+pub fn cemi_additional_info(data: &[u8]) -> KnxPart {
+    unsafe { declared::knx_cemi_additional_info(data.as_ptr(), data.len()) }
+}
+
+pub fn additional_info(area: &[u8]) -> KnxAdditionalInfo {
+    unsafe { declared::knx_additional_info(area.as_ptr(), area.len()) }
+}
+
+pub fn additional_info_nth(area: &[u8], n: usize) -> KnxAdditionalInfo {
+    unsafe { declared::knx_additional_info_nth(area.as_ptr(), area.len(), n) }
+}
+
+pub fn additional_info_count(area: &[u8]) -> KnxCount {
+    unsafe { declared::knx_additional_info_count(area.as_ptr(), area.len()) }
+}
+
 /// What stands in an L_Data frame before its data.
 #[derive(Clone, Copy)]
 pub struct Lead {
@@ -199,6 +269,44 @@ pub fn ldata_build(lead: Lead, data: &[u8], out: &mut [u8]) -> KnxWritten {
             lead.six_bit,
             data.as_ptr(),
             data.len(),
+            out.as_mut_ptr(),
+            out.len(),
+        )
+    }
+}
+
+pub fn additional_info_append(
+    area: &[u8],
+    info_type: u8,
+    data: &[u8],
+    out: &mut [u8],
+) -> KnxWritten {
+    unsafe {
+        declared::knx_additional_info_append(
+            area.as_ptr(),
+            area.len(),
+            info_type,
+            data.as_ptr(),
+            data.len(),
+            out.as_mut_ptr(),
+            out.len(),
+        )
+    }
+}
+
+pub fn cemi_build(
+    message_code: u8,
+    additional_info: &[u8],
+    service_info: &[u8],
+    out: &mut [u8],
+) -> KnxWritten {
+    unsafe {
+        declared::knx_cemi_build(
+            message_code,
+            additional_info.as_ptr(),
+            additional_info.len(),
+            service_info.as_ptr(),
+            service_info.len(),
             out.as_mut_ptr(),
             out.len(),
         )

@@ -1,8 +1,11 @@
-/* Every function of include/knx.h, called from C. The expected bytes and numbers are typed from document 01
- * and the KNX documents. Each call's arguments differ, so that a declaration with two of them swapped fails;
- * compare/border/swaps tries every two. */
+/* Every function of include/knx.h, called from C. The expected bytes and numbers are typed from documents 01
+ * and 02 and the KNX documents. Each call's arguments differ, so that a declaration with two of them swapped
+ * fails; compare/border/swaps tries every two. */
+#define _XOPEN_SOURCE 700 /* for a thread whose stack is lent */
 #include "knx.h"
 
+#include <limits.h>
+#include <pthread.h>
 #include <stdio.h>
 #include <string.h>
 
@@ -21,6 +24,10 @@ static void check(int holds, const char *what, int line) {
 
 /* A length that a declaration with one or two bytes for it would make 0 of. */
 enum { LONG = 65536 };
+
+/* Zeros. As data too large for an L_Data frame or a record from 254 bytes on, for a tunnelling request from
+ * 65526 on; as an area a record in every two bytes. */
+static const uint8_t large[LONG];
 
 /* A buffer that is lent: filled with a pattern before the call. */
 static uint8_t out[70000];
@@ -120,6 +127,136 @@ static void cemis(void) {
     CHECK(ldata_refused(knx_cemi_ldata(LENT(0x29, 0x00, 0x94, 0xE0, 0x11, 0x05, 0x08, 0x03, 0x01, 0x00)), 1));
 }
 
+/* ---- additional information */
+
+/* Three records: a timestamp, one without a name, an extended timestamp. */
+#define AREA 0x04, 0x02, 0x12, 0x34, 0x99, 0x01, 0xAA, 0x06, 0x04, 0x80, 0x01, 0x02, 0x03
+
+/* An L_Data frame: group write, data 2A. */
+#define LDATA 0x94, 0xE0, 0x11, 0x05, 0x08, 0x03, 0x03, 0x00, 0x80, 0x2A
+
+static int part_is(KnxPart p, size_t start, size_t end, unsigned number) {
+    return p.start == start && p.end == end && p.number == number;
+}
+
+static int count_is(KnxCount c, size_t count, unsigned number) { return c.count == count && c.number == number; }
+
+static int record_is(KnxAdditionalInfo r, unsigned type, unsigned named, size_t start, size_t end) {
+    return r.number == 0 && r.found == 1 && r.info_type == type && r.named == named && r.start == start && r.end == end;
+}
+
+/* A record without a timestamp. */
+static int plain(KnxAdditionalInfo r, unsigned type, unsigned named, size_t start, size_t end) {
+    return record_is(r, type, named, start, end) && r.timestamped == 0 && r.timestamp == 0;
+}
+
+static int stamped(KnxAdditionalInfo r, unsigned type, uint32_t timestamp, size_t start, size_t end) {
+    return record_is(r, type, 1, start, end) && r.timestamped == 1 && r.timestamp == timestamp;
+}
+
+/* There is none, which is no refusal, or a refusal. */
+static int no_record(KnxAdditionalInfo r, unsigned number) {
+    return r.number == number && r.found == 0 && r.info_type == 0 && r.named == 0 && r.timestamped == 0 &&
+           r.timestamp == 0 && r.start == 0 && r.end == 0;
+}
+
+static void areas(void) {
+    CHECK(part_is(knx_cemi_additional_info(LENT(0x29, 0x0D, AREA, LDATA)), 2, 15, 0));
+    CHECK(part_is(knx_cemi_additional_info(LENT(0x2E, 0x00, LDATA)), 2, 2, 0));
+    CHECK(part_is(knx_cemi_additional_info(LENT(0x11, 0x03, 0x03, 0x01, 0x07)), 2, 5, 0));
+    /* L_Busmon.ind, which has no L_Data */
+    CHECK(part_is(knx_cemi_additional_info(LENT(0x2B, 0x03, 0x03, 0x01, 0x07, 0xBC)), 2, 5, 0));
+    CHECK(part_is(knx_cemi_additional_info(BYTES(0), 0), 0, 0, 1));
+    CHECK(part_is(knx_cemi_additional_info(LENT(0x29)), 0, 0, 1));
+    CHECK(part_is(knx_cemi_additional_info(LENT(0x13, 0x05)), 0, 0, 6));
+    CHECK(part_is(knx_cemi_additional_info(large, LONG), 0, 0, 6));
+    CHECK(part_is(knx_cemi_additional_info(LENT(0x29, 0x04, 0x04, 0x02, 0x12)), 0, 0, 2));
+    /* an area that is a lone type byte: it is stepped over, handed out, and refused by its readers alone */
+    const uint8_t *lone = BYTES(0x29, 0x01, 0x04, LDATA);
+    KnxLData l = knx_cemi_ldata(lone, SIZE(0x29, 0x01, 0x04, LDATA));
+    CHECK(l.number == 0 && l.source == 0x1105 && l.start == 12 && l.end == 13);
+    KnxPart p = knx_cemi_additional_info(lone, SIZE(0x29, 0x01, 0x04, LDATA));
+    CHECK(part_is(p, 2, 3, 0));
+    CHECK(count_is(knx_additional_info_count(lone + p.start, p.end - p.start), 0, 14));
+}
+
+static void first_records(void) {
+    CHECK(stamped(knx_additional_info(LENT(AREA)), KNX_INFO_RELATIVE_TIMESTAMP, 0x1234, 2, 4));
+    CHECK(stamped(knx_additional_info(LENT(0x06, 0x04, 0x80, 0x01, 0x02, 0x03)), 6, 0x80010203, 2, 6));
+    CHECK(plain(knx_additional_info(LENT(0x99, 0x01, 0xAA)), 0x99, 0, 2, 3));
+    CHECK(plain(knx_additional_info(large, LONG), 0, 0, 2, 2));
+    CHECK(no_record(knx_additional_info(BYTES(4), 0), 0));
+    CHECK(no_record(knx_additional_info(LENT(0x04)), 14));
+    CHECK(no_record(knx_additional_info(LENT(0x04, 0x03, 0x00, 0x00)), 14));
+    /* timestamps of another length */
+    CHECK(plain(knx_additional_info(LENT(0x04, 0x00)), 4, 1, 2, 2));
+    CHECK(plain(knx_additional_info(LENT(0x04, 0x01, 0x12)), 4, 1, 2, 3));
+    CHECK(plain(knx_additional_info(LENT(0x04, 0x04, 0x80, 0x01, 0x02, 0x03)), 4, 1, 2, 6));
+    CHECK(plain(knx_additional_info(LENT(0x06, 0x02, 0x12, 0x34)), 6, 1, 2, 4));
+    /* what stands behind the first record is not looked at */
+    CHECK(plain(knx_additional_info(LENT(0x04, 0x00, 0x99)), 4, 1, 2, 2));
+}
+
+static void named_types(void) {
+    CHECK(plain(knx_additional_info(LENT(0x01, 0x01, 0xAA)), KNX_INFO_PL_MEDIUM, 1, 2, 3));
+    CHECK(plain(knx_additional_info(LENT(0x02, 0x01, 0xAA)), KNX_INFO_RF_MEDIUM, 1, 2, 3));
+    CHECK(plain(knx_additional_info(LENT(0x03, 0x01, 0xAA)), KNX_INFO_BUSMONITOR_ERROR_FLAGS, 1, 2, 3));
+    CHECK(plain(knx_additional_info(LENT(0x04, 0x01, 0xAA)), KNX_INFO_RELATIVE_TIMESTAMP, 1, 2, 3));
+    CHECK(plain(knx_additional_info(LENT(0x05, 0x01, 0xAA)), KNX_INFO_TIME_DELAY, 1, 2, 3));
+    CHECK(plain(knx_additional_info(LENT(0x06, 0x01, 0xAA)), KNX_INFO_EXTENDED_RELATIVE_TIMESTAMP, 1, 2, 3));
+    CHECK(plain(knx_additional_info(LENT(0x07, 0x01, 0xAA)), KNX_INFO_BIBAT, 1, 2, 3));
+    CHECK(plain(knx_additional_info(LENT(0x08, 0x01, 0xAA)), 8, 0, 2, 3));
+}
+
+static void nth_records(void) {
+    CHECK(stamped(knx_additional_info_nth(LENT(AREA), 0), 4, 0x1234, 2, 4));
+    CHECK(plain(knx_additional_info_nth(LENT(AREA), 1), 0x99, 0, 6, 7));
+    CHECK(stamped(knx_additional_info_nth(LENT(AREA), 2), KNX_INFO_EXTENDED_RELATIVE_TIMESTAMP, 0x80010203, 9, 13));
+    CHECK(no_record(knx_additional_info_nth(LENT(AREA), 3), 0));
+    CHECK(no_record(knx_additional_info_nth(LENT(AREA), LONG), 0));
+    CHECK(no_record(knx_additional_info_nth(LENT(AREA), SIZE_MAX), 0));
+    CHECK(plain(knx_additional_info_nth(LENT(0x04, 0x00), 0), 4, 1, 2, 2));
+    CHECK(plain(knx_additional_info_nth(large, LONG, 32767), 0, 0, LONG, LONG));
+    CHECK(no_record(knx_additional_info_nth(BYTES(4), 0, 0), 0));
+    /* the whole area has to be readable, whichever record is asked for */
+    CHECK(no_record(knx_additional_info_nth(LENT(0x04), 1), 14));
+    CHECK(no_record(knx_additional_info_nth(LENT(0x04, 0x03, 0x00, 0x00), 1), 14));
+    CHECK(no_record(knx_additional_info_nth(LENT(0x04, 0x00, 0x99), 0), 14));
+    CHECK(no_record(knx_additional_info_nth(LENT(0x04, 0x00, 0x99, 0x01), 0), 14));
+    CHECK(no_record(knx_additional_info_nth(LENT(0x04, 0x00, 0x99), 7), 14));
+}
+
+static void counts(void) {
+    CHECK(count_is(knx_additional_info_count(BYTES(4), 0), 0, 0));
+    CHECK(count_is(knx_additional_info_count(LENT(0x04, 0x00)), 1, 0));
+    CHECK(count_is(knx_additional_info_count(LENT(AREA)), 3, 0));
+    CHECK(count_is(knx_additional_info_count(large, LONG), 32768, 0));
+    CHECK(count_is(knx_additional_info_count(LENT(0x04)), 0, 14));
+    CHECK(count_is(knx_additional_info_count(LENT(0x04, 0x03, 0x00, 0x00)), 0, 14));
+    CHECK(count_is(knx_additional_info_count(LENT(0x04, 0x00, 0x99)), 0, 14));
+    CHECK(count_is(knx_additional_info_count(large, LONG - 1), 0, 14));
+}
+
+/* The loop in include/knx.h, on a frame with three records. */
+static void walking(void) {
+    const uint8_t *cemi = BYTES(0x29, 0x0D, AREA, LDATA);
+    size_t cemi_length = SIZE(0x29, 0x0D, AREA, LDATA);
+    KnxAdditionalInfo walked[4] = {{0}};
+    uint8_t first_bytes[4] = {0};
+    size_t records = 0, at;
+    KnxPart p = knx_cemi_additional_info(cemi, cemi_length);
+    for (at = p.start; p.number == 0 && records < 4;) {
+        KnxAdditionalInfo r = knx_additional_info(cemi + at, p.end - at);
+        if (r.number != 0 || !r.found) break;
+        first_bytes[records] = cemi[at + r.start];
+        walked[records++] = r;
+        at += r.end;
+    }
+    CHECK(records == 3 && at == 15 && p.end == 15 && memcmp(first_bytes, BYTES(0x12, 0xAA, 0x80), 3) == 0);
+    CHECK(stamped(walked[0], 4, 0x1234, 2, 4) && plain(walked[1], 0x99, 0, 2, 3));
+    CHECK(stamped(walked[2], 6, 0x80010203, 2, 6));
+}
+
 /* ---- building */
 
 static int wrote(KnxWritten w, const uint8_t *bytes, size_t n) { return w.number == 0 && w.count == n && holds(bytes, n); }
@@ -128,9 +265,6 @@ static int refused(KnxWritten w, unsigned number) { return w.number == number &&
 
 static const KnxEndpoint control = {.address = {192, 168, 1, 10}, .port = 3671};
 static const KnxEndpoint data = {.address = {10, 0, 0, 7}, .port = 50000};
-
-/* Too large for an L_Data frame from 254 bytes on, for a tunnelling request from 65526 on. */
-static const uint8_t large[LONG];
 
 static void ldatas(void) {
     fill();
@@ -147,6 +281,68 @@ static void ldatas(void) {
     CHECK(refused(knx_ldata_build(0x94, 0xE0, 0x1105, 0x0803, 0x00, 0x080, 64, LENT(0x2A), out, 9), 13));
     CHECK(refused(knx_ldata_build(0x94, 0xE0, 0x1105, 0x0803, 0x00, 0x080, 0, large, 254, out, 9), 5));
     CHECK(refused(knx_ldata_build(0x94, 0xE0, 0x1105, 0x0803, 0x00, 0x080, 0, large, LONG, out, 9), 5));
+}
+
+static void appending(void) {
+    fill();
+    CHECK(wrote(knx_additional_info_append(LENT(0x99, 0x01, 0xAA), 0x04, LENT(0x12, 0x34), out, 7),
+                LENT(0x99, 0x01, 0xAA, 0x04, 0x02, 0x12, 0x34)));
+    fill();
+    CHECK(wrote(knx_additional_info_append(BYTES(4), 0, 0x06, LENT(0x80, 0x01, 0x02, 0x03), out, LONG),
+                LENT(0x06, 0x04, 0x80, 0x01, 0x02, 0x03)));
+    fill();
+    CHECK(wrote(knx_additional_info_append(LENT(0x04, 0x02, 0x12, 0x34), 0x99, BYTES(5), 0, out, 9),
+                LENT(0x04, 0x02, 0x12, 0x34, 0x99, 0x00)));
+    /* the longest: of data alone, of an old area alone */
+    const uint8_t by_data[255] = {0x05, 0xFD}, by_area[255] = {0x07, 0xFB, [253] = 0x05};
+    fill();
+    CHECK(wrote(knx_additional_info_append(BYTES(4), 0, 0x05, large, 253, out, 255), by_data, 255));
+    fill();
+    CHECK(wrote(knx_additional_info_append(by_area, 253, 0x05, BYTES(4), 0, out, 256), by_area, 255));
+    /* 14, before 5, before 1 */
+    fill();
+    CHECK(refused(knx_additional_info_append(LENT(0x04), 0x05, large, 254, out, 0), 14));
+    CHECK(refused(knx_additional_info_append(LENT(0x04, 0x03, 0x00, 0x00), 0x05, LENT(0x12, 0x34), out, LONG), 14));
+    CHECK(refused(knx_additional_info_append(LENT(0x04, 0x00, 0x99), 0x05, LENT(0x12, 0x34), out, 6), 14));
+    CHECK(refused(knx_additional_info_append(large, 257, 0x05, LENT(0x12, 0x34), out, 6), 14));
+    CHECK(refused(knx_additional_info_append(BYTES(4), 0, 0x05, large, 254, out, 3), 5));
+    CHECK(refused(knx_additional_info_append(LENT(0x04, 0x00), 0x05, large, 252, out, 3), 5));
+    CHECK(refused(knx_additional_info_append(large, 254, 0x05, BYTES(4), 0, out, LONG), 5));
+    CHECK(refused(knx_additional_info_append(large, LONG, 0x05, LENT(0x12, 0x34), out, 6), 5));
+    CHECK(refused(knx_additional_info_append(LENT(0x04, 0x00), 0x05, large, LONG, out, 6), 5));
+    CHECK(refused(knx_additional_info_append(LENT(0x99, 0x01, 0xAA), 0x04, LENT(0x12, 0x34), out, 6), 1));
+    CHECK(refused(knx_additional_info_append(BYTES(4), 0, 0x05, large, 253, out, 254), 1));
+}
+
+static void cemi_frames(void) {
+    fill();
+    CHECK(wrote(knx_cemi_build(0x29, LENT(0x04, 0x02, 0x12, 0x34), LENT(LDATA), out, 16),
+                LENT(0x29, 0x04, 0x04, 0x02, 0x12, 0x34, LDATA)));
+    fill();
+    CHECK(wrote(knx_cemi_build(0x11, BYTES(4), 0, LENT(LDATA), out, LONG), LENT(0x11, 0x00, LDATA)));
+    fill();
+    CHECK(wrote(knx_cemi_build(0x2B, LENT(0x03, 0x01, 0x07), BYTES(4), 0, out, 6), LENT(0x2B, 0x03, 0x03, 0x01, 0x07)));
+    const uint8_t codes[] = {0x10, 0x11, 0x29, 0x2B, 0x2D, 0x2E, 0x2F};
+    for (size_t i = 0; i < sizeof codes; i++) {
+        fill();
+        CHECK(wrote(knx_cemi_build(codes[i], BYTES(4), 0, BYTES(5), 0, out, 2), LENT(codes[i], 0x00)));
+    }
+    /* the longest area, of 255 bytes, and more than two bytes can say behind it */
+    static uint8_t longest[257 + LONG] = {0x2E, 0xFF, 0x05, 0xFD};
+    fill();
+    CHECK(wrote(knx_cemi_build(0x2E, longest + 2, 255, large, LONG, out, 257 + LONG), longest, 257 + LONG));
+    /* 6, before 14, before 5, before 1 */
+    fill();
+    CHECK(refused(knx_cemi_build(0x13, LENT(0x04), LENT(LDATA), out, 0), 6));
+    CHECK(refused(knx_cemi_build(0x00, BYTES(4), 0, LENT(LDATA), out, LONG), 6));
+    CHECK(refused(knx_cemi_build(0x29, large, 257, LENT(LDATA), out, 3), 14));
+    CHECK(refused(knx_cemi_build(0x29, LENT(0x04), LENT(LDATA), out, LONG), 14));
+    CHECK(refused(knx_cemi_build(0x29, LENT(0x04, 0x00, 0x99), LENT(LDATA), out, 3), 14));
+    CHECK(refused(knx_cemi_build(0x29, large, 256, LENT(LDATA), out, 3), 5));
+    CHECK(refused(knx_cemi_build(0x29, large, LONG, LENT(LDATA), out, 70000), 5));
+    CHECK(refused(knx_cemi_build(0x29, LENT(0x04, 0x02, 0x12, 0x34), LENT(LDATA), out, 15), 1));
+    CHECK(refused(knx_cemi_build(0x2E, longest + 2, 255, large, LONG, out, 256 + LONG), 1));
+    CHECK(refused(knx_cemi_build(0x29, BYTES(4), 0, BYTES(5), 0, out, 1), 1));
 }
 
 static void requests(void) {
@@ -185,6 +381,94 @@ static void tunnelled(void) {
     CHECK(refused(knx_tunneling_ack(0x15, 0x07, 0x29, out, 10), 1));
     CHECK(wrote(knx_tunneling_ack(0x2A, 0x08, 0x01, out, LONG),
                 LENT(0x06, 0x10, 0x04, 0x21, 0x00, 0x0B, 0x04, 0x2A, 0x08, 0x00, 0x01)));
+}
+
+/* ---- an area far longer than a frame can have, and in the least stack of a thread */
+
+enum { MANY = 1048576, LEAST_STACK = PTHREAD_STACK_MIN > 16384 ? PTHREAD_STACK_MIN : 16384, PAINT = 0xA7 };
+
+/* The two head bytes of a cEMI frame, then 2 MiB of zeros, which are MANY records, and one byte more. */
+static uint8_t frame[2 + 2 * MANY + 1];
+static const uint8_t *const area = frame + 2;
+
+static struct {
+    KnxPart part;
+    KnxAdditionalInfo first, last, behind, odd;
+    KnxCount count, odd_count;
+    KnxWritten append, odd_append, build, odd_build;
+} said;
+
+static void ask_part(void) { said.part = knx_cemi_additional_info(frame, 2 + 2 * MANY); }
+static void ask_first(void) { said.first = knx_additional_info(area, 2 * MANY); }
+static void ask_last(void) { said.last = knx_additional_info_nth(area, 2 * MANY, MANY - 1); }
+static void ask_behind(void) { said.behind = knx_additional_info_nth(area, 2 * MANY, MANY); }
+static void ask_count(void) { said.count = knx_additional_info_count(area, 2 * MANY); }
+static void ask_append(void) { said.append = knx_additional_info_append(area, 2 * MANY, 4, LENT(0x12, 0x34), out, 0); }
+static void ask_build(void) { said.build = knx_cemi_build(0x29, area, 2 * MANY, LENT(LDATA), out, 0); }
+
+/* With the byte more, a lone type byte. */
+static void ask_odd(void) { said.odd = knx_additional_info_nth(area, 2 * MANY + 1, MANY - 1); }
+static void ask_odd_count(void) { said.odd_count = knx_additional_info_count(area, 2 * MANY + 1); }
+static void ask_odd_append(void) { said.odd_append = knx_additional_info_append(area, 2 * MANY + 1, 4, LENT(0x12, 0x34), out, 0); }
+static void ask_odd_build(void) { said.odd_build = knx_cemi_build(0x29, area, 2 * MANY + 1, LENT(LDATA), out, 0); }
+
+static void (*const asks[])(void) = {ask_part,  ask_first, ask_last,      ask_behind,     ask_count,    ask_append,
+                                     ask_build, ask_odd,   ask_odd_count, ask_odd_append, ask_odd_build};
+
+enum { ASKS = sizeof asks / sizeof *asks };
+
+/* Judges what was said, and forgets it. */
+static void check_said(void) {
+    CHECK(part_is(said.part, 2, 257, 0) && plain(said.first, 0, 0, 2, 2));
+    CHECK(plain(said.last, 0, 0, 2 * MANY, 2 * MANY) && no_record(said.behind, 0) && count_is(said.count, MANY, 0));
+    CHECK(refused(said.append, 5) && refused(said.build, 5));
+    CHECK(no_record(said.odd, 14) && count_is(said.odd_count, 0, 14));
+    CHECK(refused(said.odd_append, 14) && refused(said.odd_build, 14));
+    memset(&said, 0xEE, sizeof said);
+}
+
+typedef struct {
+    void (*ask)(void);
+    uintptr_t caller; /* an address in the caller's frame */
+} Asker;
+
+static void *in_thread(void *asker) {
+    Asker *a = asker;
+    a->caller = (uintptr_t)&a;
+    a->ask();
+    return NULL;
+}
+
+/* How far below its caller a call overwrote a painted stack. The thread itself checks and prints nothing: that
+ * would take more stack than the call. */
+static size_t stack_taken(void (*ask)(void)) {
+    static _Alignas(64) uint8_t stack[LEAST_STACK];
+    Asker asker = {.ask = ask};
+    pthread_attr_t attributes;
+    pthread_t thread;
+    memset(stack, PAINT, sizeof stack);
+    CHECK(pthread_attr_init(&attributes) == 0 && pthread_attr_setstack(&attributes, stack, sizeof stack) == 0 &&
+          pthread_create(&thread, &attributes, in_thread, &asker) == 0 && pthread_join(thread, NULL) == 0);
+    pthread_attr_destroy(&attributes);
+    const uint8_t *lowest = stack;
+    while (lowest < stack + sizeof stack && *lowest == PAINT) lowest++;
+    return asker.caller - (uintptr_t)lowest;
+}
+
+/* First on the usual stack, then each call in a thread of its own. The most that one took. */
+static size_t long_areas(void) {
+    size_t most = 0;
+    memcpy(frame, BYTES(0x29, 0xFF), 2);
+    fill();
+    for (size_t i = 0; i < ASKS; i++) asks[i]();
+    check_said();
+    for (size_t i = 0; i < ASKS; i++) {
+        size_t taken = stack_taken(asks[i]);
+        most = taken > most ? taken : most;
+    }
+    check_said();
+    CHECK(most <= 1024);
+    return most;
 }
 
 /* ---- the table: 40 bytes of image, and others behind it that no call may touch */
@@ -292,13 +576,23 @@ int main(void) {
     hpais();
     connect_responses();
     cemis();
+    areas();
+    first_records();
+    named_types();
+    nth_records();
+    counts();
+    walking();
     ldatas();
+    appending();
+    cemi_frames();
     requests();
     tunnelled();
     opening();
     waiting();
     datagrams();
     odd_images();
+    size_t stack = long_areas();
+    printf("C: 2 MiB of additional information in %zu of %d bytes of stack\n", stack, LEAST_STACK);
     printf("C: %d checks, %d failed\n", checks, failures);
     return failures != 0;
 }

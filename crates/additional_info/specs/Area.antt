@@ -187,8 +187,9 @@ NthPromise s n r = told r ≡ nthBy02 s n
 abbrev pub taken : List ℕ → ℕ
 taken s = cond (stands s) (endOf s) 0
 
+-- how many records one walk is asked for, where n are left
 abbrev pub atMost : ℕ → ℕ
-atMost n = cond (ltb n 128) n 128
+atMost n = cond (ltb n 8) n 8
 
 abbrev pub TimestampPromise : ℕ → List ℕ → Timestamp → Type 0
 TimestampPromise code «data» r = r ≡ timestampOf (record { code = code; «data» = «data» })

@@ -15,7 +15,7 @@ use Rattle.wire.specs.declared.refusals.Refusal.{Refusal}
 use Rattle.wire.specs.declared.refusals.Refusal.the-variants.{InvalidAdditionalInfo}
 use Rattle.additional_info.specs.InfoType.{typeOf}
 use Rattle.additional_info.specs.Area.{Info, codeIn, lengthIn, endOf, dataIn, restOf, checks, stands, recordsIn, behind, allIn, placeOf, areaCheck, timestampOf, toldRecord, nothing, recordBy02, ParsePromise, CountPromise, nthIn, NthPromise, taken, atMost, RecordPromise, WalkPromise}
-use Rattle.additional_info.specs.WalkLaws.{all-taken, behind-add, behind-is, behind-on, behind-stop, one-more, parted, passes, records-add, records-most, records-on, records-stop, refuses, stood}
+use Rattle.additional_info.specs.WalkLaws.{stopped, all-taken, behind-add, behind-is, behind-on, behind-stop, one-more, parted, passes, records-add, records-most, records-on, records-stop, refuses, stood}
 use Rattle.additional_info.specs.AreaLaws.{counted, not-counted}
 use Rattle.additional_info.specs.declared.info_type.AdditionalInfoType.{AdditionalInfoType}
 use Rattle.additional_info.specs.declared.area.Timestamp.{Timestamp}
@@ -113,8 +113,12 @@ exact (suc m) j s e = go (stands (behind j s)) refl
     go false h =
         (records-add (suc m) j s ∙ ap (λ (l : List Info). recordsIn j s ++ l) (records-stop (suc m) (behind j s) h) ∙ append-nil (recordsIn j s), behind-add (suc m) j s ∙ behind-stop (suc m) (behind j s) h)
 
--- past m records, then past those that a walk of at most k from there found
-walk-more : (m at k : ℕ) (s rest : List ℕ) (r : Walked) → WalkPromise m s (to m at) → rest ≡ behind m s → WalkPromise k rest r → WalkPromise (m + r .records) s (to (m + r .records) (at + r .at))
+-- past m records, then past those that a walk of at most k from there found; what remains is what remains there
+record More (m at k : ℕ) (s : List ℕ) (r : Walked) : Type 0 where
+  on : WalkPromise (m + r .records) s (to (m + r .records) (at + r .at))
+  left : behind (m + r .records) s ≡ behind k (behind m s)
+
+walk-more : (m at k : ℕ) (s rest : List ℕ) (r : Walked) → WalkPromise m s (to m at) → rest ≡ behind m s → WalkPromise k rest r → More m at k s r
 walk-more m at k s rest r p e q =
     let t : List ℕ = behind m s in
     let x : WalkPromise k t r = rw (← e) q in
@@ -123,13 +127,14 @@ walk-more m at k s rest r p e q =
     let both = exact (k - j) j t (ap (λ (i : ℕ). length (recordsIn i t)) (sym split) ∙ sym (x .0)) in
     let rs : recordsIn k t ≡ recordsIn j t = ap (λ (i : ℕ). recordsIn i t) split ∙ both .0 in
     let bs : behind k t ≡ behind j t = ap (λ (i : ℕ). behind i t) split ∙ both .1 in
-    let turn : m + j ≡ j + m = omega arith in
+    let swapped : m + j ≡ j + m = omega arith in
     let all : length (recordsIn (m + j) s) ≡ length (recordsIn m s) + length (recordsIn k t) =
-    ap (λ (i : ℕ). length (recordsIn i s)) turn ∙ ap length (records-add j m s) ∙ length-append (recordsIn m s) (recordsIn j t) ∙ ap (λ (l : List Info). length (recordsIn m s) + length l) (sym rs) in
-    let left : length (behind (m + j) s) ≡ length (behind k t) = ap (λ (i : ℕ). length (behind i s)) turn ∙ ap length (behind-add j m s) ∙ ap length (sym bs) in
+    ap (λ (i : ℕ). length (recordsIn i s)) swapped ∙ ap length (records-add j m s) ∙ length-append (recordsIn m s) (recordsIn j t) ∙ ap (λ (l : List Info). length (recordsIn m s) + length l) (sym rs) in
+    let here : behind (m + j) s ≡ behind k t = ap (λ (i : ℕ). behind i s) swapped ∙ behind-add j m s ∙ sym bs in
+    let long = ap length here in
     let a = parted m s .place-rest in
     let b = parted k t .place-rest in
-    (omega (arith, p .0, x .0), omega (arith, p .1, x .1))
+    record { on = (omega (arith, p .0, x .0), omega (arith, p .1, x .1)); left = here }
 
 -- where none stands behind m records, more are not found
 walk-ends : (m n at : ℕ) (s : List ℕ) → WalkPromise m s (to m at) → m ≤ n → stands (behind m s) ≡ false → WalkPromise n s (to m at)
@@ -140,28 +145,17 @@ walk-ends m n at s p h e =
     let bs : behind n s ≡ behind m s = ap (λ (i : ℕ). behind i s) split ∙ behind-add k m s ∙ behind-stop k (behind m s) e in
     (p .0 ∙ ap length (sym rs), p .1 ∙ ap (λ (l : List ℕ). length s - length l) (sym bs))
 
--- a walk that was asked for one or more, and found none
-found-none : (k : ℕ) (s : List ℕ) (r : Walked) → WalkPromise k s r → 1 ≤ k → r .records ≡ 0 → stands s ≡ false
-found-none k s r p some z = go (stands s) refl
-  where
-    go : (b : Bool) → stands s ≡ b → b ≡ false
-    go false h = refl
-    go true h =
-        let e : k ≡ suc (k - 1) = omega arith in
-        let x = ap (λ (i : ℕ). length (recordsIn i s)) e ∙ ap length (records-on (k - 1) s h) in
-        absurd (omega (arith, p .0))
-
 -- a walk is asked for no more than remain, and for one at least where one remains
 record Asked (n k : ℕ) : Type 0 where
   pub most : k ≤ n
   pub some : 1 ≤ n → 1 ≤ k
 
 asked : (n k : ℕ) → k ≡ atMost n → Asked n k
-asked n k e = go (ltb n 128) refl e
+asked n k e = go (ltb n 8) refl e
   where
-    go : (b : Bool) → ltb n 128 ≡ b → k ≡ cond b n 128 → Asked n k
+    go : (b : Bool) → ltb n 8 ≡ b → k ≡ cond b n 8 → Asked n k
     go true h p = record { most = omega arith; some = λ x. omega arith }
-    go false h p = record { most = omega (arith, ltb-false n 128 h); some = λ x. omega arith }
+    go false h p = record { most = omega (arith, ltb-false n 8 h); some = λ x. omega arith }
 
 -- what remains behind m records, as the part from its place to the end
 rest-is : (m at : ℕ) (s rest : List ℕ) → WalkPromise m s (to m at) → rest ≡ partOf s at (length s) → rest ≡ behind m s
@@ -169,23 +163,27 @@ rest-is m at s rest p e =
     let a = parted m s .place-rest in
     e ∙ part-to-end s at (omega (arith, p .1)) ∙ ap (λ (k : ℕ). drop k s) (p .1) ∙ behind-is m s
 
--- one turn of the loop over walks, for n records, where m are past
-pub record Turn (n m at : ℕ) (s : List ℕ) (r : Walked) : Type 0 where
+-- one turn of the loop over walks, for n records, where m are past: the walk was asked for k
+pub record Turn (n m at k : ℕ) (s : List ℕ) (r : Walked) : Type 0 where
   pub most : m + r .records ≤ n
   pub within : at + r .at ≤ length s
   pub next : WalkPromise (m + r .records) s (to (m + r .records) (at + r .at))
-  pub last : r .records ≡ 0 → WalkPromise n s (to m at)
+  pub falls : k ≤ r .records → 1 ≤ r .records
+  pub last : r .records < k → WalkPromise n s (to (m + r .records) (at + r .at))
 
-pub turn : (n m at k : ℕ) (s rest : List ℕ) (r : Walked) → m < n → WalkPromise m s (to m at) → k ≡ atMost (n - m) → rest ≡ partOf s at (length s) → WalkPromise k rest r → Turn n m at s r
+pub turn : (n m at k : ℕ) (s rest : List ℕ) (r : Walked) → m < n → WalkPromise m s (to m at) → k ≡ atMost (n - m) → rest ≡ partOf s at (length s) → WalkPromise k rest r → Turn n m at k s r
 turn n m at k s rest r few p e shown w =
     let some = asked (n - m) k e in
     let here : rest ≡ behind m s = rest-is m at s rest p shown in
-    let on : WalkPromise (m + r .records) s (to (m + r .records) (at + r .at)) = walk-more m at k s rest r p here w in
+    let more = walk-more m at k s rest r p here w in
+    let found : length (recordsIn k rest) ≡ length (recordsIn k (behind m s)) = ap (λ (l : List ℕ). length (recordsIn k l)) here in
+    let fits : m + r .records ≤ n = omega (arith, w .0, records-most k rest) in
     record {
-      most = omega (arith, w .0, records-most k rest);
-      within = omega (arith, on .1);
-      next = on;
-      last = λ z. walk-ends m n at s p (omega arith) (ap stands (sym here) ∙ found-none k rest r w (some .some (omega arith)) z);
+      most = fits;
+      within = omega (arith, more .on .1);
+      next = more .on;
+      falls = λ h. (let one = some .some (omega arith) in omega arith);
+      last = λ h. walk-ends (m + r .records) n (at + r .at) s (more .on) fits (ap stands (more .left) ∙ stopped k (behind m s) (omega (arith, w .0)));
     }
 
 -- all records walked past: something remains, or nothing does

@@ -79,22 +79,23 @@ struct Walked {
     at: usize,
 }
 
-// A call of the recursive walk takes no more records than this, so that any area is walked in a few KB of stack.
-const MOST: usize = 128;
+// A call of the recursive walk takes no more records than this, so that any area is walked in little stack.
+const MOST: usize = 8;
 
-// Past n records, or to where no whole record stands: in walks of at most 128.
+// Past n records, or to where no whole record stands. A walk that finds fewer than it was asked for is the last.
 fn past(area: &[u8], n: usize) -> Walked
     ensures { λ r. ⌜ WalkPromise n (now (area .entry)) r ⌝ }
 {
     let mut records = 0;
     let mut at = 0;
     while records < n {
-        let next = walk(wire::part(area, at, area.len()), at_most(n - records));
-        if next.records == 0 {
-            break;
-        }
+        let most = at_most(n - records);
+        let next = walk(wire::part(area, at, area.len()), most);
         records += next.records;
         at += next.at;
+        if next.records < most {
+            break;
+        }
     }
     Walked { records, at }
 }

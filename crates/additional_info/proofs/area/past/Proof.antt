@@ -17,44 +17,44 @@ abbrev μ-loop : tie.MeasureT-loop
 loop-holds : tie.Need-loop-holds Inv-loop μ-loop
 loop-holds c = (omega arith, walk-none (c .before .args .area .now))
 
-part-requires : tie.Need-part-requires Inv-loop μ-loop
-part-requires c κs = search needs
-
 sub-at-most : tie.Need-sub-at-most Inv-loop μ-loop
 sub-at-most c = omega arith
 
 at-most-requires : tie.Need-at-most-requires Inv-loop μ-loop
 at-most-requires c κs = search needs
 
+part-requires : tie.Need-part-requires Inv-loop μ-loop
+part-requires c κs = search needs
+
 walk-requires : tie.Need-walk-requires Inv-loop μ-loop
 walk-requires c κs = search needs
 
 add-records : tie.Need-add-records Inv-loop μ-loop
 add-records c =
-    let l = c .before .before .before .before .before .before .before .loop in
-    let w = c .before .before .before .walk in
-    let t = turn (c .before .before .before .before .before .before .before .before .before .args .n) (l .records) (l .at) (c .before .before .before .before .at-most .result) (c .before .before .before .before .before .before .before .before .before .args .area .now) (c .before .before .before .before .before .part .result .now) (w .result) (c .before .before .before .before .before .before .loop-test .taken) (l .inv .1) (c .before .before .before .before .at-most .ensures) (c .before .before .before .before .before .part .ensures) (w .ensures) in
+    let l = c .before .before .before .before .before .loop in
+    let w = c .before .walk in
+    let t = turn (c .before .before .before .before .before .before .before .args .n) (l .records) (l .at) (c .before .before .before .at-most .result) (c .before .before .before .before .before .before .before .args .area .now) (c .before .before .part .result .now) (w .result) (c .before .before .before .before .loop-test .taken) (l .inv .1) (c .before .before .before .at-most .ensures) (c .before .before .part .ensures) (w .ensures) in
     omega (arith, t .most)
 
 add-at : tie.Need-add-at Inv-loop μ-loop
 add-at c =
-    let l = c .before .before .before .before .before .before .before .before .loop in
-    let w = c .before .before .before .before .walk in
-    let t = turn (c .before .before .before .before .before .before .before .before .before .before .args .n) (l .records) (l .at) (c .before .before .before .before .before .at-most .result) (c .before .before .before .before .before .before .before .before .before .before .args .area .now) (c .before .before .before .before .before .before .part .result .now) (w .result) (c .before .before .before .before .before .before .before .loop-test .taken) (l .inv .1) (c .before .before .before .before .before .at-most .ensures) (c .before .before .before .before .before .before .part .ensures) (w .ensures) in
+    let l = c .before .before .before .before .before .before .loop in
+    let w = c .before .before .walk in
+    let t = turn (c .before .before .before .before .before .before .before .before .args .n) (l .records) (l .at) (c .before .before .before .before .at-most .result) (c .before .before .before .before .before .before .before .before .args .area .now) (c .before .before .before .part .result .now) (w .result) (c .before .before .before .before .before .loop-test .taken) (l .inv .1) (c .before .before .before .before .at-most .ensures) (c .before .before .before .part .ensures) (w .ensures) in
     omega (arith, t .within)
 
 loop-less : tie.Need-loop-less Inv-loop μ-loop
 loop-less c =
     let l = c .before .before .before .before .before .before .before .before .loop in
     let w = c .before .before .before .before .walk in
-    let t = turn (c .before .before .before .before .before .before .before .before .before .before .args .n) (l .records) (l .at) (c .before .before .before .before .before .at-most .result) (c .before .before .before .before .before .before .before .before .before .before .args .area .now) (c .before .before .before .before .before .before .part .result .now) (w .result) (c .before .before .before .before .before .before .before .loop-test .taken) (l .inv .1) (c .before .before .before .before .before .at-most .ensures) (c .before .before .before .before .before .before .part .ensures) (w .ensures) in
-    omega (arith, t .most)
+    let t = turn (c .before .before .before .before .before .before .before .before .before .before .args .n) (l .records) (l .at) (c .before .before .before .before .before .before .at-most .result) (c .before .before .before .before .before .before .before .before .before .before .args .area .now) (c .before .before .before .before .before .part .result .now) (w .result) (c .before .before .before .before .before .before .before .loop-test .taken) (l .inv .1) (c .before .before .before .before .before .before .at-most .ensures) (c .before .before .before .before .before .part .ensures) (w .ensures) in
+    omega (arith, t .most, t .falls (c .if1 .left))
 
 loop-again : tie.Need-loop-again Inv-loop μ-loop
 loop-again c =
     let l = c .before .before .before .before .before .before .before .before .loop in
     let w = c .before .before .before .before .walk in
-    let t = turn (c .before .before .before .before .before .before .before .before .before .before .args .n) (l .records) (l .at) (c .before .before .before .before .before .at-most .result) (c .before .before .before .before .before .before .before .before .before .before .args .area .now) (c .before .before .before .before .before .before .part .result .now) (w .result) (c .before .before .before .before .before .before .before .loop-test .taken) (l .inv .1) (c .before .before .before .before .before .at-most .ensures) (c .before .before .before .before .before .before .part .ensures) (w .ensures) in
+    let t = turn (c .before .before .before .before .before .before .before .before .before .before .args .n) (l .records) (l .at) (c .before .before .before .before .before .before .at-most .result) (c .before .before .before .before .before .before .before .before .before .before .args .area .now) (c .before .before .before .before .before .part .result .now) (w .result) (c .before .before .before .before .before .before .before .loop-test .taken) (l .inv .1) (c .before .before .before .before .before .before .at-most .ensures) (c .before .before .before .before .before .part .ensures) (w .ensures) in
     (t .most, t .next)
 
 returns : tie.Need-returns Inv-loop μ-loop
@@ -66,9 +66,9 @@ returns c =
 
 returns-2 : tie.Need-returns-2 Inv-loop μ-loop
 returns-2 c =
-    let l = c .before .before .before .before .before .before .loop in
-    let w = c .before .before .walk in
-    let t = turn (c .before .before .before .before .before .before .before .before .args .n) (l .records) (l .at) (c .before .before .before .at-most .result) (c .before .before .before .before .before .before .before .before .args .area .now) (c .before .before .before .before .part .result .now) (w .result) (c .before .before .before .before .before .loop-test .taken) (l .inv .1) (c .before .before .before .at-most .ensures) (c .before .before .before .before .part .ensures) (w .ensures) in
+    let l = c .before .before .before .before .before .before .before .before .loop in
+    let w = c .before .before .before .before .walk in
+    let t = turn (c .before .before .before .before .before .before .before .before .before .before .args .n) (l .records) (l .at) (c .before .before .before .before .before .before .at-most .result) (c .before .before .before .before .before .before .before .before .before .before .args .area .now) (c .before .before .before .before .before .part .result .now) (w .result) (c .before .before .before .before .before .before .before .loop-test .taken) (l .inv .1) (c .before .before .before .before .before .before .at-most .ensures) (c .before .before .before .before .before .part .ensures) (w .ensures) in
     t .last (c .if1 .taken)
 
 pub past-spec : {M : Type 1} → statement M
@@ -78,9 +78,9 @@ past-spec =
     Inv-loop
     μ-loop
     loop-holds
-    part-requires
     sub-at-most
     at-most-requires
+    part-requires
     walk-requires
     add-records
     add-at
