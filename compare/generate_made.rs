@@ -71,7 +71,7 @@ fn cemi(size: Size, emit: Emit) {
 }
 
 /// Control 2, destination, L, kind, sequence, APCI by its number and `Unknown`'s code, the slice.
-fn ldata_args(control2: u8, npdu: u8, kind: u8, apci: u8, code: u16, slice: &[u8]) -> Vec<u8> {
+pub fn ldata_args(control2: u8, npdu: u8, kind: u8, apci: u8, code: u16, slice: &[u8]) -> Vec<u8> {
     let [high, low] = code.to_be_bytes();
     let fields = [0x94, control2, 0x11, 0x05, 0x08, 0x03, npdu, kind, 5, apci, high, low];
     [&fields[..], slice].concat()
@@ -155,7 +155,7 @@ fn random_ldata(rng: &mut Rng) -> Vec<u8> {
     [args, slice].concat()
 }
 
-fn random_refusal(rng: &mut Rng) -> u8 {
+pub fn random_refusal(rng: &mut Rng) -> u8 {
     if rng.below(8) == 0 { 1 + rng.below(14) as u8 } else { 0 }
 }
 

@@ -77,7 +77,8 @@ pub fn priority_of(number: u8) -> Option<Priority> {
     })
 }
 
-/// 0 for `Unknown`, whatever its code.
+/// 0 for `Unknown`, whatever its code; 14 is kept for a control code of the standard count, which
+/// the Rust does not have.
 pub fn apci_number(apci: Apci) -> usize {
     match apci {
         Apci::Unknown(_) => 0,

@@ -298,6 +298,8 @@ fn reading() -> Vec<Case> {
     let sides = [rust_connect_response, knx_connect_response];
     let response = Reads { sides, inputs: random(inputs::connect_response) };
     let cemi = Reads { sides: [rust_cemi_ldata, knx_cemi_ldata], inputs: random(inputs::cemi) };
+    let sides = [rust_cemi_ldata_standard, knx_cemi_ldata_standard];
+    let standard = Reads { sides, inputs: random(inputs::cemi_standard) };
     vec![
         case("frame parse, good", "0.7", "frame_parse", good),
         case("frame parse, mixed", "0.7", "frame_parse", mixed),
@@ -305,6 +307,7 @@ fn reading() -> Vec<Case> {
         case("Hpai parse", "", "hpai_parse", hpai),
         case("connect response", "", "connect_response", response),
         case("cEMI to L_Data", "0.7", "cemi_ldata", cemi),
+        case("cEMI to L_Data, standard", "as above", "cemi_ldata_standard", standard),
     ]
 }
 
@@ -321,6 +324,10 @@ fn building() -> Vec<Case> {
         let sides: [LDataBuild; 2] = [rust_ldata_build, knx_ldata_build];
         let work = Builds { sides, bodies: bodies(first, last), out: [0; ROOM] };
         cases.push(case(format!("L_Data build, {first} to {last}"), "0.9", "ldata_build", work));
+        let sides: [LDataBuild; 2] = [rust_ldata_build_standard, knx_ldata_build_standard];
+        let work = Builds { sides, bodies: bodies(first, last), out: [0; ROOM] };
+        let name = format!("L_Data build, {first} to {last}, standard");
+        cases.push(case(name, "as above", "ldata_build_standard", work));
     }
     for (first, last) in [(0, 0), (14, 14), (54, 54), (0, 60), (250, 250), (500, 500)] {
         let sides: [Request; 2] = [rust_tunneling_request, knx_tunneling_request];

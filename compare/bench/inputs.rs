@@ -64,14 +64,29 @@ pub fn connect_response(rng: &mut Rng) -> Vec<u8> {
 
 /// L_Data in cEMI: one in eight with additional information, one in eight a control packet.
 pub fn cemi(rng: &mut Rng) -> Vec<u8> {
-    let additional = if rng.below(8) == 0 { 4 } else { 0 };
     let data = rng.below(15);
     let tpci = [0x00, 0x00, 0x00, 0x00, 0x00, 0x00, 0x44, 0x80][rng.below(8)];
+    ldata_in_cemi(rng, data as u8 + 2, tpci, 1 + data)
+}
+
+/// The same in the standard count: a control packet has nothing behind its TPCI byte.
+pub fn cemi_standard(rng: &mut Rng) -> Vec<u8> {
+    let data = rng.below(15);
+    match rng.below(8) {
+        0 => ldata_in_cemi(rng, 0, 0x80, 0),
+        1 => ldata_in_cemi(rng, data as u8 + 1, 0x44, 1 + data),
+        _ => ldata_in_cemi(rng, data as u8 + 1, 0x00, 1 + data),
+    }
+}
+
+/// Of this L and TPCI byte, with so many bytes behind it.
+fn ldata_in_cemi(rng: &mut Rng, length: u8, tpci: u8, behind: usize) -> Vec<u8> {
+    let additional = if rng.below(8) == 0 { 4 } else { 0 };
     let mut cemi = vec![[0x11, 0x29, 0x2E][rng.below(3)], additional];
     cemi.extend(rng.bytes(additional.into()));
     cemi.extend(rng.bytes(6));
-    cemi.extend([data as u8 + 2, tpci | rng.below(4) as u8]);
-    cemi.extend(rng.bytes(1 + data));
+    cemi.extend([length, tpci | rng.below(4) as u8]);
+    cemi.extend(rng.bytes(behind));
     cemi
 }
 

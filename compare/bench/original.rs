@@ -1,12 +1,13 @@
 // The other side: the published Rust behind the border's signatures, and, where it has no such call,
-// the comparison's own writing of document 01, for additional information that of info.rs. Crate root:
-// the published files stand beside it.
+// the comparison's own writing of document 01, for additional information and the standard count those
+// of info.rs and standard.rs. Crate root: the published files stand beside it.
 
 pub mod addressing;
 pub mod border;
 pub mod error;
 pub mod info;
 pub mod ldata_builder;
+pub mod standard;
 pub mod tunnel_table;
 
 pub mod protocol {
@@ -18,7 +19,7 @@ pub mod protocol {
 
 use border::{
     KnxAdditionalInfo, KnxCalled, KnxConnectResponse, KnxCount, KnxFrame, KnxHpai, KnxLData,
-    KnxPart, KnxWritten,
+    KnxPart, KnxWritten, Lead,
 };
 use error::{KnxError, Result};
 use info::Record;
@@ -117,9 +118,18 @@ fn cemi_ldata(data: &[u8]) -> Result<KnxLData> {
         tpci_kind,
         tpci_sequence,
         apci_named: u8::from(!matches!(frame.apci, Apci::Unknown(_))),
+        control_code: 0,
         six_bit: if frame.tpci.is_data() { extract_6bit_value(data[start - 1]) } else { 0 },
         number: 0,
     })
+}
+
+#[no_mangle]
+pub unsafe extern "C" fn rust_cemi_ldata_standard(data: *const u8, length: usize) -> KnxLData {
+    match standard::cemi_ldata(from_raw_parts(data, length)) {
+        Ok(answer) => answer,
+        Err(number) => KnxLData { number, ..KnxLData::default() },
+    }
 }
 
 #[no_mangle]
@@ -215,6 +225,25 @@ pub unsafe extern "C" fn rust_ldata_build(
     let (tpci, data) = (Tpci::from_byte(tpci), from_raw_parts(data, length));
     let builder = LDataBuilder { ctrl1, ctrl2, source, destination, tpci, apci, six_bits, data };
     written(builder.build(from_raw_parts_mut(out, room)))
+}
+
+#[no_mangle]
+pub unsafe extern "C" fn rust_ldata_build_standard(
+    control_1: u8,
+    control_2: u8,
+    source: u16,
+    destination: u16,
+    tpci: u8,
+    code: u16,
+    six_bit: u8,
+    data: *const u8,
+    length: usize,
+    out: *mut u8,
+    room: usize,
+) -> KnxWritten {
+    let data = from_raw_parts(data, length);
+    let lead = Lead { control_1, control_2, source, destination, tpci, apci_code: code, six_bit };
+    written(standard::build(lead, data, from_raw_parts_mut(out, room)))
 }
 
 #[no_mangle]

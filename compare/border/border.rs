@@ -49,6 +49,7 @@ pub struct KnxLData {
     pub tpci_kind: u8,
     pub tpci_sequence: u8,
     pub apci_named: u8,
+    pub control_code: u8,
     pub six_bit: u8,
     pub number: u8,
 }
@@ -113,6 +114,7 @@ pub mod declared {
         pub fn knx_frame_parse(data: *const u8, data_length: usize) -> KnxFrame;
         pub fn knx_hpai_parse(data: *const u8, data_length: usize) -> KnxHpai;
         pub fn knx_connect_response(body: *const u8, body_length: usize) -> KnxConnectResponse;
+        pub fn knx_cemi_ldata_standard(data: *const u8, data_length: usize) -> KnxLData;
         pub fn knx_cemi_ldata(data: *const u8, data_length: usize) -> KnxLData;
         pub fn knx_cemi_additional_info(data: *const u8, data_length: usize) -> KnxPart;
         pub fn knx_additional_info(area: *const u8, area_length: usize) -> KnxAdditionalInfo;
@@ -122,6 +124,19 @@ pub mod declared {
             n: usize,
         ) -> KnxAdditionalInfo;
         pub fn knx_additional_info_count(area: *const u8, area_length: usize) -> KnxCount;
+        pub fn knx_ldata_build_standard(
+            control_1: u8,
+            control_2: u8,
+            source: u16,
+            destination: u16,
+            tpci: u8,
+            apci_code: u16,
+            six_bit: u8,
+            data: *const u8,
+            data_length: usize,
+            out: *mut u8,
+            out_length: usize,
+        ) -> KnxWritten;
         pub fn knx_ldata_build(
             control_1: u8,
             control_2: u8,
@@ -225,6 +240,10 @@ pub fn connect_response(body: &[u8]) -> KnxConnectResponse {
     unsafe { declared::knx_connect_response(body.as_ptr(), body.len()) }
 }
 
+pub fn cemi_ldata_standard(data: &[u8]) -> KnxLData {
+    unsafe { declared::knx_cemi_ldata_standard(data.as_ptr(), data.len()) }
+}
+
 pub fn cemi_ldata(data: &[u8]) -> KnxLData {
     unsafe { declared::knx_cemi_ldata(data.as_ptr(), data.len()) }
 }
@@ -255,6 +274,24 @@ pub struct Lead {
     pub tpci: u8,
     pub apci_code: u16,
     pub six_bit: u8,
+}
+
+pub fn ldata_build_standard(lead: Lead, data: &[u8], out: &mut [u8]) -> KnxWritten {
+    unsafe {
+        declared::knx_ldata_build_standard(
+            lead.control_1,
+            lead.control_2,
+            lead.source,
+            lead.destination,
+            lead.tpci,
+            lead.apci_code,
+            lead.six_bit,
+            data.as_ptr(),
+            data.len(),
+            out.as_mut_ptr(),
+            out.len(),
+        )
+    }
 }
 
 pub fn ldata_build(lead: Lead, data: &[u8], out: &mut [u8]) -> KnxWritten {

@@ -95,7 +95,7 @@ static void connect_responses(void) {
 static int ldata_refused(KnxLData l, unsigned number) {
     return l.number == number && l.start == 0 && l.end == 0 && l.source == 0 && l.destination == 0 && l.apci_code == 0 &&
            l.message_code == 0 && l.control_1 == 0 && l.control_2 == 0 && l.npdu_length == 0 && l.tpci_kind == 0 &&
-           l.tpci_sequence == 0 && l.apci_named == 0 && l.six_bit == 0;
+           l.tpci_sequence == 0 && l.apci_named == 0 && l.control_code == 0 && l.six_bit == 0;
 }
 
 static void cemis(void) {
@@ -119,12 +119,50 @@ static void cemis(void) {
     /* a control packet: data from 8 on, no APCI */
     l = knx_cemi_ldata(LENT(0x29, 0x00, 0x94, 0x60, 0x11, 0x05, 0x11, 0x03, 0x01, 0xC6, 0xFF));
     CHECK(l.number == 0 && l.tpci_kind == 3 && l.tpci_sequence == 1 && l.apci_named == 0 && l.apci_code == 0 && l.six_bit == 0);
+    CHECK(l.control_code == 0);
     CHECK(l.start == 10 && l.end == 10);
     CHECK(ldata_refused(knx_cemi_ldata(LENT(0x29)), 1));
     CHECK(ldata_refused(knx_cemi_ldata(LENT(0x99, 0x00)), 6));
     CHECK(ldata_refused(knx_cemi_ldata(LENT(0x2D, 0x00, 0x94)), 6));
     CHECK(ldata_refused(knx_cemi_ldata(LENT(0x29, 0x03, 0xAA, 0xBB)), 2));
     CHECK(ldata_refused(knx_cemi_ldata(LENT(0x29, 0x00, 0x94, 0xE0, 0x11, 0x05, 0x08, 0x03, 0x01, 0x00)), 1));
+}
+
+/* In the standard count, as a real gateway sends them. */
+static void cemis_standard(void) {
+    /* a switch: group write, no data, six-bit 1 */
+    KnxLData l = knx_cemi_ldata_standard(LENT(0x29, 0x00, 0xBC, 0xE0, 0x11, 0x05, 0x08, 0x03, 0x01, 0x00, 0x81));
+    CHECK(l.number == 0 && l.message_code == 0x29 && l.control_1 == 0xBC && l.control_2 == 0xE0);
+    CHECK(l.source == 0x1105 && l.destination == 0x0803 && l.npdu_length == 1);
+    CHECK(l.tpci_kind == 0 && l.tpci_sequence == 0 && l.apci_named == 1 && l.apci_code == 0x080 && l.six_bit == 1);
+    CHECK(l.control_code == 0 && l.start == 11 && l.end == 11);
+    /* 21.00 degrees, behind a timestamp */
+    l = knx_cemi_ldata_standard(
+        LENT(0x29, 0x04, 0x04, 0x02, 0x12, 0x34, 0xBC, 0xE0, 0x11, 0x05, 0x08, 0x03, 0x03, 0x00, 0x80, 0x0C, 0x1A));
+    CHECK(l.number == 0 && l.npdu_length == 3 && l.apci_code == 0x080 && l.start == 15 && l.end == 17);
+    /* connect, disconnect, ack and nak of sequence 5 */
+    l = knx_cemi_ldata_standard(LENT(0x29, 0x00, 0xB0, 0x60, 0x11, 0x05, 0x12, 0x0A, 0x00, 0x80));
+    CHECK(l.number == 0 && l.tpci_kind == 2 && l.control_code == KNX_CONTROL_CONNECT && l.apci_named == 0);
+    CHECK(l.start == 10 && l.end == 10 && l.apci_code == 0 && l.six_bit == 0);
+    l = knx_cemi_ldata_standard(LENT(0x29, 0x00, 0xB0, 0x60, 0x11, 0x05, 0x12, 0x0A, 0x00, 0x81));
+    CHECK(l.number == 0 && l.tpci_kind == 2 && l.tpci_sequence == 0 && l.control_code == KNX_CONTROL_DISCONNECT);
+    l = knx_cemi_ldata_standard(LENT(0x29, 0x00, 0xB0, 0x60, 0x11, 0x05, 0x12, 0x0A, 0x00, 0xD6));
+    CHECK(l.number == 0 && l.tpci_kind == 3 && l.tpci_sequence == 5 && l.control_code == KNX_CONTROL_ACK && l.apci_named == 0);
+    l = knx_cemi_ldata_standard(LENT(0x29, 0x00, 0xB0, 0x60, 0x11, 0x05, 0x12, 0x0A, 0x00, 0xD7, 0xEE));
+    CHECK(l.number == 0 && l.tpci_kind == 3 && l.control_code == KNX_CONTROL_NAK && l.apci_code == 0 && l.end == 10);
+    /* refused: too short, L of 0 and 255, a control packet with L = 1, an end past the input, and cEMI's own */
+    CHECK(ldata_refused(knx_cemi_ldata_standard(LENT(0x29, 0x00, 0xBC, 0xE0, 0x11, 0x05, 0x08, 0x03, 0x01)), 1));
+    CHECK(ldata_refused(knx_cemi_ldata_standard(LENT(0x29, 0x00, 0xBC, 0xE0, 0x11, 0x05, 0x08, 0x03, 0x01, 0x00)), 2));
+    CHECK(ldata_refused(knx_cemi_ldata_standard(LENT(0x29, 0x00, 0xBC, 0xE0, 0x11, 0x05, 0x08, 0x03, 0x00, 0x00, 0x81)), 2));
+    CHECK(ldata_refused(knx_cemi_ldata_standard(LENT(0x29, 0x00, 0xB0, 0x60, 0x11, 0x05, 0x12, 0x0A, 0x01, 0x80, 0x00)), 2));
+    CHECK(ldata_refused(knx_cemi_ldata_standard(LENT(0x29, 0x00, 0xBC, 0xE0, 0x11, 0x05, 0x08, 0x03, 0x03, 0x00, 0x80, 0x0C)), 2));
+    CHECK(ldata_refused(knx_cemi_ldata_standard(LENT(0x2D, 0xFF)), 6));
+    CHECK(ldata_refused(knx_cemi_ldata_standard(LENT(0x29, 0x03, 0xAA, 0xBB)), 2));
+    uint8_t longest[2 + 263] = {0x29, 0x00, 0x3C, 0xE0, 0x11, 0x05, 0x08, 0x03, 254, 0x00, 0x80};
+    l = knx_cemi_ldata_standard(longest, 2 + 262);
+    CHECK(l.number == 0 && l.start == 11 && l.end == 2 + 262);
+    longest[8] = 255;
+    CHECK(ldata_refused(knx_cemi_ldata_standard(longest, sizeof longest), 2));
 }
 
 /* ---- additional information */
@@ -281,6 +319,31 @@ static void ldatas(void) {
     CHECK(refused(knx_ldata_build(0x94, 0xE0, 0x1105, 0x0803, 0x00, 0x080, 64, LENT(0x2A), out, 9), 13));
     CHECK(refused(knx_ldata_build(0x94, 0xE0, 0x1105, 0x0803, 0x00, 0x080, 0, large, 254, out, 9), 5));
     CHECK(refused(knx_ldata_build(0x94, 0xE0, 0x1105, 0x0803, 0x00, 0x080, 0, large, LONG, out, 9), 5));
+}
+
+static void ldatas_standard(void) {
+    fill();
+    CHECK(wrote(knx_ldata_build_standard(0xBC, 0xD0, 0x1234, 0x5678, 0x54, 0x3C0, 0x2A, LENT(1, 2, 3), out, LONG),
+                LENT(0xBC, 0xD0, 0x12, 0x34, 0x56, 0x78, 0x04, 0x57, 0xEA, 1, 2, 3)));
+    fill();
+    CHECK(wrote(knx_ldata_build_standard(0xBC, 0xE0, 0x1105, 0x0803, 0x00, 0x080, 1, large, 0, out, 9),
+                LENT(0xBC, 0xE0, 0x11, 0x05, 0x08, 0x03, 0x01, 0x00, 0x81)));
+    /* control packets; the low bits of tpci and the six-bit number are not looked at */
+    fill();
+    CHECK(wrote(knx_ldata_build_standard(0xB0, 0x60, 0x1105, 0x120A, 0x80, KNX_CONTROL_DISCONNECT, 0, large, 0, out, 8),
+                LENT(0xB0, 0x60, 0x11, 0x05, 0x12, 0x0A, 0x00, 0x81)));
+    fill();
+    CHECK(wrote(knx_ldata_build_standard(0xB0, 0x60, 0x1105, 0x120A, 0xD7, KNX_CONTROL_ACK, 64, large, 0, out, LONG),
+                LENT(0xB0, 0x60, 0x11, 0x05, 0x12, 0x0A, 0x00, 0xD6)));
+    fill();
+    CHECK(refused(knx_ldata_build_standard(0xB0, 0x60, 0x1105, 0x120A, 0x80, 0, 0, large, 0, out, 7), 1));
+    CHECK(refused(knx_ldata_build_standard(0xB0, 0x60, 0x1105, 0x120A, 0x80, 4, 0, large, 0, out, 8), 13));
+    CHECK(refused(knx_ldata_build_standard(0xB0, 0x60, 0x1105, 0x120A, 0x80, 0x100, 0, large, 0, out, 8), 13));
+    CHECK(refused(knx_ldata_build_standard(0xB0, 0x60, 0x1105, 0x120A, 0x80, 0, 0, large, 254, out, 8), 13));
+    CHECK(refused(knx_ldata_build_standard(0xBC, 0xE0, 0x1105, 0x0803, 0x00, 0x080, 0, LENT(0x2A), out, 9), 1));
+    CHECK(refused(knx_ldata_build_standard(0xBC, 0xE0, 0x1105, 0x0803, 0x00, 0x003, 0, LENT(0x2A), out, 9), 13));
+    CHECK(refused(knx_ldata_build_standard(0xBC, 0xE0, 0x1105, 0x0803, 0x00, 0x080, 64, LENT(0x2A), out, 9), 13));
+    CHECK(refused(knx_ldata_build_standard(0xBC, 0xE0, 0x1105, 0x0803, 0x00, 0x080, 0, large, 254, out, 9), 5));
 }
 
 static void appending(void) {
@@ -576,6 +639,7 @@ int main(void) {
     hpais();
     connect_responses();
     cemis();
+    cemis_standard();
     areas();
     first_records();
     named_types();
@@ -583,6 +647,7 @@ int main(void) {
     counts();
     walking();
     ldatas();
+    ldatas_standard();
     appending();
     cemi_frames();
     requests();

@@ -1,7 +1,6 @@
-// An L_Data frame that borrows its data.
-ghost use mathlib.Core.Path.{_≡_};
-ghost use Rattle.ldata.specs.Count.{startOf};
-ghost use Rattle.borrowed.specs.LDataFrame.{DataInPromise, ParsePromise, BorrowedViewPromise, DataViewPromise, DataOfPromise, DataPromise};
+// An L_Data frame that borrows its data, in the crate's count or in the one that a call is given.
+ghost use Rattle.borrowed.specs.LDataFrame.{ParsePromise, ParseInPromise, DataPromise, FrameDataInPromise, DataInPromise, DataInCountPromise, DataViewPromise, DataViewInPromise, BorrowedViewPromise, DataOfInPromise};
+use ldata::Counting;
 use ldata::LDataAnswer;
 use ldata::LDataFields;
 use wire::Refusal;
@@ -14,19 +13,33 @@ pub struct LDataFrame<'a> {
 }
 
 impl<'a> LDataFrame<'a> {
+    // In the crate's count, as in the Rust.
     pub fn parse(data: &'a [u8]) -> LDataFrame<'a>
         ensures { λ r. ⌜ ParsePromise (now («data» .entry)) r ⌝ }
     {
+        LDataFrame::parse_in(Counting::Crate, data)
+    }
+
+    pub fn parse_in(counting: Counting, data: &'a [u8]) -> LDataFrame<'a>
+        ensures { λ r. ⌜ ParseInPromise counting (now («data» .entry)) r ⌝ }
+    {
         LDataFrame {
-            data: borrowed(data),
-            answer: LDataFields::parse(data),
+            data: borrowed(counting, data),
+            answer: LDataFields::parse_in(counting, data),
         }
     }
 
+    // In the crate's count.
     pub fn data(self) -> &'a [u8]
         ensures { λ r. ⌜ DataPromise (self .entry) (now r) ⌝ }
     {
-        data_of(self.data, self.answer)
+        self.data_in(Counting::Crate)
+    }
+
+    pub fn data_in(self, counting: Counting) -> &'a [u8]
+        ensures { λ r. ⌜ FrameDataInPromise counting (self .entry) (now r) ⌝ }
+    {
+        data_of(counting, self.data, self.answer)
     }
 }
 
@@ -34,57 +47,64 @@ impl<'a> LDataFrame<'a> {
 pub fn data_in(bytes: &[u8]) -> &[u8]
     ensures { λ r. ⌜ DataInPromise (now (bytes .entry)) (now r) ⌝ }
 {
-    LDataFrame::parse(bytes).data()
+    data_in_count(Counting::Crate, bytes)
+}
+
+pub fn data_in_count(counting: Counting, bytes: &[u8]) -> &[u8]
+    ensures { λ r. ⌜ DataInCountPromise counting (now (bytes .entry)) (now r) ⌝ }
+{
+    LDataFrame::parse_in(counting, bytes).data_in(counting)
 }
 
 // Where the data stands in what a frame borrows; a frame that no parse made is checked here.
 pub fn data_view(data: &[u8], answer: LDataAnswer) -> View
     ensures { λ r. ⌜ DataViewPromise (now («data» .entry)) answer r ⌝ }
 {
+    data_view_in(Counting::Crate, data, answer)
+}
+
+pub fn data_view_in(counting: Counting, data: &[u8], answer: LDataAnswer) -> View
+    ensures { λ r. ⌜ DataViewInPromise counting (now («data» .entry)) answer r ⌝ }
+{
     match answer {
-        LDataAnswer::Frame(frame) => borrowed_view(data, frame),
+        LDataAnswer::Frame(frame) => borrowed_view(counting, data, frame),
         LDataAnswer::Refused(why) => View::refused(why),
     }
 }
 
 // The frame's data alone is borrowed, so all of it stands from the start on.
-fn borrowed_view(data: &[u8], frame: LDataFields) -> View
-    ensures { λ r. ⌜ BorrowedViewPromise (now («data» .entry)) frame r ⌝ }
+fn borrowed_view(counting: Counting, data: &[u8], frame: LDataFields) -> View
+    ensures { λ r. ⌜ BorrowedViewPromise counting (now («data» .entry)) frame r ⌝ }
 {
     let tpci = frame.tpci;
-    let start = data_start(tpci.is_data());
-    let end = 7 + frame.npdu_length as usize;
+    let is_data = tpci.is_data();
+    let start = ldata::data_start(is_data);
+    let end = counting.data_end(frame.npdu_length);
     if start + data.len() < end {
         return View::refused(Refusal::InvalidFrame);
     }
-    if end < start {
-        return View::refused(Refusal::InvalidFrame);
+    if counting.allows(is_data, frame.npdu_length) {
+        return View {
+            number: 0,
+            start: 0,
+            end: end - start,
+        };
     }
-    View {
-        number: 0,
-        start: 0,
-        end: end - start,
-    }
+    View::refused(Refusal::InvalidFrame)
 }
 
-fn data_start(is_data: bool) -> usize
-    ensures { λ r. ⌜ r ≡ startOf «is_data» ⌝ }
+fn data_of(counting: Counting, data: &[u8], answer: LDataAnswer) -> &[u8]
+    ensures { λ r. ⌜ DataOfInPromise counting (now («data» .entry)) answer (now r) ⌝ }
 {
-    if is_data { 9 } else { 8 }
-}
-
-fn data_of(data: &[u8], answer: LDataAnswer) -> &[u8]
-    ensures { λ r. ⌜ DataOfPromise (now («data» .entry)) answer (now r) ⌝ }
-{
-    let view = data_view(data, answer);
+    let view = data_view_in(counting, data, answer);
     wire::part(data, view.start, view.end)
 }
 
-fn borrowed(bytes: &[u8]) -> &[u8]
-    ensures { λ r. ⌜ DataInPromise (now (bytes .entry)) (now r) ⌝ }
+fn borrowed(counting: Counting, bytes: &[u8]) -> &[u8]
+    ensures { λ r. ⌜ DataInCountPromise counting (now (bytes .entry)) (now r) ⌝ }
 {
-    match LDataFields::parse(bytes) {
-        LDataAnswer::Frame(frame) => frame.data_part(bytes),
+    match LDataFields::parse_in(counting, bytes) {
+        LDataAnswer::Frame(frame) => frame.data_part_in(counting, bytes),
         LDataAnswer::Refused(_) => wire::part(bytes, 0, 0),
     }
 }

@@ -7,4 +7,6 @@ pub use knxnet_ip_frame::body_in;
 pub use knxnet_ip_frame::body_view;
 pub use ldata_frame::LDataFrame;
 pub use ldata_frame::data_in;
+pub use ldata_frame::data_in_count;
 pub use ldata_frame::data_view;
+pub use ldata_frame::data_view_in;

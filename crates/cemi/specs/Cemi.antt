@@ -1,4 +1,4 @@
--- 01, "cEMI": message code, additional length, the additional information, and what the code says the rest is; 02, 1/13: the area, and a whole frame. Assumes nothing.
+-- 01, "cEMI": message code, additional length, the additional information, and what the code says the rest is; 02, 1/13: the area, and a whole frame; 2/13: L_Data in the standard count. Assumes nothing.
 use Prim.Native.Nat.{ℕ, _+_}
 use mathlib.Core.Path.{_≡_}
 use mathlib.Core.Bool.{Bool, true, false, not}
@@ -19,9 +19,10 @@ use Rattle.wire.specs.declared.parts.View.{View}
 use Rattle.constants.specs.MessageCodes.{messageCodes, codeOf}
 use Rattle.constants.specs.declared.message_codes.CEMIMessageCode.{CEMIMessageCode}
 use Rattle.constants.specs.declared.message_codes.CEMIMessageCode.the-variants.{LDataReq, LDataInd, LDataCon, LRawReq, LRawInd, LRawCon, LBusmonInd}
-use Rattle.ldata.specs.Count.{crateCount}
+use Rattle.ldata.specs.Count.{Count, crateCount, countBy}
 use Rattle.ldata.specs.LData.{valuesIn, byteChecks}
 use Rattle.ldata.specs.LData as LData
+use Rattle.ldata.specs.declared.count.Counting.{Counting}
 use Rattle.ldata.specs.declared.ldata.LDataAnswer.{LDataAnswer}
 use Rattle.additional_info.specs.Appending.{areaChecks}
 use Rattle.cemi.specs.declared.CEMIFrame.{CEMIFrame}
@@ -114,12 +115,19 @@ serviceInfo s = partOf s (2 + infoLength s) (length s)
 abbrev pub ldataChecks : CEMIFrame → List ℕ → List Check
 ldataChecks f s = not (isLData (f .«message_code»)) ⇒ InvalidMessageCode ∷ infoCheck s ∷ []
 
--- then L_Data on the rest
+-- then L_Data on the rest, over how L counts
+abbrev pub asLDataIn : Count → CEMIFrame → List ℕ → Told
+asLDataIn C f s = judged (checks s ++ ldataChecks f s ++ byteChecks C (serviceInfo s)) (done (valuesIn C (serviceInfo s)))
+
 abbrev pub asLDataBy01 : CEMIFrame → List ℕ → Told
-asLDataBy01 f s = judged (checks s ++ ldataChecks f s ++ byteChecks crateCount (serviceInfo s)) (done (valuesIn (serviceInfo s)))
+asLDataBy01 f s = asLDataIn crateCount f s
 
 abbrev pub AsLDataPromise : CEMIFrame → List ℕ → LDataAnswer → Type 0
 AsLDataPromise f s r = LData.told r ≡ asLDataBy01 f s
+
+-- in the count that it is given
+abbrev pub AsLDataInPromise : Counting → CEMIFrame → List ℕ → LDataAnswer → Type 0
+AsLDataInPromise c f s r = LData.told r ≡ asLDataIn (countBy c) f s
 
 -- ---- 02, 1/13: the additional information
 

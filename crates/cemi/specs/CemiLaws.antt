@@ -21,13 +21,14 @@ use Rattle.wire.specs.declared.refusals.Verdict.the-variants.{Accept, Refuse}
 use Rattle.constants.specs.MessageCodes.{messageCodes, codeOf, messageOf}
 use Rattle.constants.specs.MessageCodeLaws as MessageCodeLaws
 use Rattle.constants.specs.declared.message_codes.CEMIMessageCode.{CEMIMessageCode}
-use Rattle.ldata.specs.Count.{crateCount}
+use Rattle.ldata.specs.Count.{Count}
 use Rattle.ldata.specs.LData.{valuesIn, byteChecks}
 use Rattle.ldata.specs.LData as LData
 use Rattle.ldata.specs.LDataLaws as LDataLaws
+use Rattle.ldata.specs.declared.count.Counting.{Counting}
 use Rattle.ldata.specs.declared.ldata.LDataAnswer.{LDataAnswer}
 use Rattle.ldata.specs.declared.ldata.LDataAnswer.the-variants as LDataAnswer
-use Rattle.cemi.specs.Cemi.{fields, format, codeIn, infoLength, checks, told, ParsePromise, toldLength, InfoLengthPromise, infoCheck, ServiceInfoPromise, isLData, serviceInfo, ldataChecks, AsLDataPromise}
+use Rattle.cemi.specs.Cemi.{fields, format, codeIn, infoLength, checks, told, ParsePromise, toldLength, InfoLengthPromise, infoCheck, ServiceInfoPromise, isLData, serviceInfo, ldataChecks, asLDataIn, AsLDataInPromise}
 use Rattle.cemi.specs.declared.CEMIFrame.{CEMIFrame}
 use Rattle.cemi.specs.declared.CEMIAnswer.{CEMIAnswer}
 use Rattle.cemi.specs.declared.CEMIAnswer.the-variants as CEMIAnswer
@@ -55,28 +56,29 @@ too-short s a e h = simp (lt-ltb (length s) (2 + infoLength s) (omega (arith, e)
 pub long-enough : (s : List ℕ) (a : ℕ) → a ≡ infoLength s → 2 + a ≤ length s → verdict (infoCheck s ∷ []) ≡ Accept
 long-enough s a e h = simp (le-ltb (length s) (2 + infoLength s) (omega (arith, e)))
 
-module _ (f : CEMIFrame) (s : List ℕ) where
+module _ (C : Count) (f : CEMIFrame) (s : List ℕ) where
   -- a refusal before L_Data is looked at
-  early : (e : Refusal) → verdict (checks s ++ ldataChecks f s) ≡ Refuse e → AsLDataPromise f s (LDataAnswer.Refused e)
+  early : (e : Refusal) → verdict (checks s ++ ldataChecks f s) ≡ Refuse e → LData.told (LDataAnswer.Refused e) ≡ asLDataIn C f s
   early e q =
-      sym (let-refuse (checks s ++ ldataChecks f s ++ byteChecks crateCount (serviceInfo s)) (done (valuesIn (serviceInfo s))) e
-      (stays (checks s ++ ldataChecks f s) (byteChecks crateCount (serviceInfo s)) e q))
+      sym (let-refuse (checks s ++ ldataChecks f s ++ byteChecks C (serviceInfo s)) (done (valuesIn C (serviceInfo s))) e
+      (stays (checks s ++ ldataChecks f s) (byteChecks C (serviceInfo s)) e q))
 
-  pub no-cemi : (e : Refusal) → verdict (checks s) ≡ Refuse e → AsLDataPromise f s (LDataAnswer.Refused e)
+  pub no-cemi : (e : Refusal) → verdict (checks s) ≡ Refuse e → LData.told (LDataAnswer.Refused e) ≡ asLDataIn C f s
   no-cemi e q = early e (stays (checks s) (ldataChecks f s) e q)
 
-  pub no-ldata : verdict (checks s) ≡ Accept → not (isLData (f .«message_code»)) ≡ true → AsLDataPromise f s (LDataAnswer.Refused InvalidMessageCode)
+  pub no-ldata : verdict (checks s) ≡ Accept → not (isLData (f .«message_code»)) ≡ true → LData.told (LDataAnswer.Refused InvalidMessageCode) ≡ asLDataIn C f s
   no-ldata q other = early InvalidMessageCode (goes-on (checks s) (ldataChecks f s) q ∙ simp other)
 
-  pub no-info : verdict (checks s) ≡ Accept → not (isLData (f .«message_code»)) ≡ false → verdict (infoCheck s ∷ []) ≡ Refuse InvalidFrame → AsLDataPromise f s (LDataAnswer.Refused InvalidFrame)
+  pub no-info : verdict (checks s) ≡ Accept → not (isLData (f .«message_code»)) ≡ false → verdict (infoCheck s ∷ []) ≡ Refuse InvalidFrame
+      → LData.told (LDataAnswer.Refused InvalidFrame) ≡ asLDataIn C f s
   no-info q this short = early InvalidFrame (goes-on (checks s) (ldataChecks f s) q ∙ simp this short)
 
   -- then L_Data on the rest
   pub on-rest : (r : LDataAnswer) → verdict (checks s) ≡ Accept → not (isLData (f .«message_code»)) ≡ false → verdict (infoCheck s ∷ []) ≡ Accept
-      → LData.ParsePromise (serviceInfo s) r → AsLDataPromise f s r
+      → LData.told r ≡ LData.parseBy01 C (serviceInfo s) → LData.told r ≡ asLDataIn C f s
   on-rest r q this enough p =
       let passed : verdict (checks s ++ ldataChecks f s) ≡ Accept = goes-on (checks s) (ldataChecks f s) q ∙ simp this enough in
-      p ∙ ap (λ (v : Verdict). answer v (done (valuesIn (serviceInfo s)))) (sym (goes-on (checks s ++ ldataChecks f s) (byteChecks crateCount (serviceInfo s)) passed))
+      p ∙ ap (λ (v : Verdict). answer v (done (valuesIn C (serviceInfo s)))) (sym (goes-on (checks s ++ ldataChecks f s) (byteChecks C (serviceInfo s)) passed))
 
 -- ---- what is accepted
 
@@ -113,5 +115,5 @@ info-length-one s r q a b = one-to-one toldLength (answerOf lengthOf InfoLengthA
 pub service-info-one : (s : List ℕ) (r q : View) → ServiceInfoPromise s r → ServiceInfoPromise s q → r ≡ q
 service-info-one s r q a b = PartLaws.told-one r q (same a b)
 
-pub as-ldata-one : (f : CEMIFrame) (s : List ℕ) (r q : LDataAnswer) → AsLDataPromise f s r → AsLDataPromise f s q → r ≡ q
-as-ldata-one f s r q a b = LDataLaws.told-one r q (same a b)
+pub as-ldata-one : (c : Counting) (f : CEMIFrame) (s : List ℕ) (r q : LDataAnswer) → AsLDataInPromise c f s r → AsLDataInPromise c f s q → r ≡ q
+as-ldata-one c f s r q a b = LDataLaws.told-one r q (same a b)

@@ -1,7 +1,8 @@
 // A cEMI frame: cemi.rs, `CEMIFrame`, whose slice stands beside it as a parameter.
-ghost use Rattle.cemi.specs.Cemi.{ParsePromise, StandsPromise, MessageCodePromise, InfoLengthPromise, ServiceInfoPromise, ServiceInfoPartPromise, AsLDataPromise, IsLDataPromise, InfoPromise, InfoPartPromise, BuildPromise};
+ghost use Rattle.cemi.specs.Cemi.{ParsePromise, StandsPromise, MessageCodePromise, InfoLengthPromise, ServiceInfoPromise, ServiceInfoPartPromise, AsLDataPromise, AsLDataInPromise, IsLDataPromise, InfoPromise, InfoPartPromise, BuildPromise};
 use constants::CEMIMessageCode;
 use constants::CEMIMessageCodeAnswer;
+use ldata::Counting;
 use ldata::LDataAnswer;
 use ldata::LDataFields;
 use wire::Refusal;
@@ -83,9 +84,16 @@ impl CEMIFrame {
         wire::part(data, view.start, view.end)
     }
 
-    // The field decides whether it is L_Data, as in the Rust, and before the length is looked at.
+    // In the crate's count, as in the Rust.
     pub fn as_ldata(self, data: &[u8]) -> LDataAnswer
         ensures { λ r. ⌜ AsLDataPromise self (now («data» .entry)) r ⌝ }
+    {
+        self.as_ldata_in(Counting::Crate, data)
+    }
+
+    // The field decides whether it is L_Data, as in the Rust, and before the length is looked at.
+    pub fn as_ldata_in(self, counting: Counting, data: &[u8]) -> LDataAnswer
+        ensures { λ r. ⌜ AsLDataInPromise counting self (now («data» .entry)) r ⌝ }
     {
         match stands(data) {
             Verdict::Accept => {
@@ -96,7 +104,7 @@ impl CEMIFrame {
                 if data.len() < start {
                     return LDataAnswer::Refused(Refusal::InvalidFrame);
                 }
-                LDataFields::parse(wire::part(data, start, data.len()))
+                LDataFields::parse_in(counting, wire::part(data, start, data.len()))
             }
             Verdict::Refuse(why) => LDataAnswer::Refused(why),
         }

@@ -141,7 +141,7 @@ service-info-never-14 s r p q =
 
 pub as-ldata-never-14 : (f : CEMIFrame) (s : List ℕ) (r : LDataAnswer) → Cemi.AsLDataPromise f s r → LData.told r .number ≡ 14 → ⊥
 as-ldata-never-14 f s r p q =
-    never-brought (Cemi.checks s ++ Cemi.ldataChecks f s ++ LData.byteChecks crateCount (Cemi.serviceInfo s)) (done (LData.valuesIn (Cemi.serviceInfo s))) 14 refl (omega arith) refl
+    never-brought (Cemi.checks s ++ Cemi.ldataChecks f s ++ LData.byteChecks crateCount (Cemi.serviceInfo s)) (done (LData.valuesIn crateCount (Cemi.serviceInfo s))) 14 refl (omega arith) refl
     (sym (ap (λ (t : Told). t .number) p) ∙ q)
 
 pub info-never-14 : (s : List ℕ) (r : View) → Cemi.InfoPromise s r → r .number ≡ 14 → ⊥

@@ -57,6 +57,7 @@ pub record Reads : Type 0 where
         «tpci_kind» = 0;
         «tpci_sequence» = 0;
         «apci_named» = 1;
+        «control_code» = 0;
         «six_bit» = 0;
         number = 0;
       })
@@ -75,7 +76,45 @@ pub record Reads : Type 0 where
         «tpci_kind» = 1;
         «tpci_sequence» = 5;
         «apci_named» = 0;
+        «control_code» = 0;
         «six_bit» = 6;
+        number = 0;
+      })
+  -- the switch telegram of a real gateway, and T_Ack of sequence 5
+  pub cemi-switch : CemiLData.CemiLDataStandardPromise (0x29 ∷ 0x00 ∷ 0xBC ∷ 0xE0 ∷ 0x11 ∷ 0x05 ∷ 0x08 ∷ 0x03 ∷ 0x01 ∷ 0x00 ∷ 0x81 ∷ [])
+      (record {
+        start = 11;
+        end = 11;
+        source = 0x1105;
+        destination = 0x0803;
+        «apci_code» = 0x080;
+        «message_code» = 0x29;
+        «control_1» = 0xBC;
+        «control_2» = 0xE0;
+        «npdu_length» = 1;
+        «tpci_kind» = 0;
+        «tpci_sequence» = 0;
+        «apci_named» = 1;
+        «control_code» = 0;
+        «six_bit» = 1;
+        number = 0;
+      })
+  pub cemi-ack : CemiLData.CemiLDataStandardPromise (0x29 ∷ 0x00 ∷ 0xB0 ∷ 0x60 ∷ 0x11 ∷ 0x05 ∷ 0x12 ∷ 0x0A ∷ 0x00 ∷ 0xD6 ∷ [])
+      (record {
+        start = 10;
+        end = 10;
+        source = 0x1105;
+        destination = 0x120A;
+        «apci_code» = 0;
+        «message_code» = 0x29;
+        «control_1» = 0xB0;
+        «control_2» = 0x60;
+        «npdu_length» = 0;
+        «tpci_kind» = 3;
+        «tpci_sequence» = 5;
+        «apci_named» = 0;
+        «control_code» = 2;
+        «six_bit» = 0;
         number = 0;
       })
 
@@ -87,6 +126,8 @@ reads = record {
   connect-response = (refl, record { address-4 = refl; crd-4 = refl });
   cemi-ldata = refl;
   cemi-numbered = refl;
+  cemi-switch = refl;
+  cemi-ack = refl;
 }
 
 -- ---- additional information
@@ -128,6 +169,10 @@ wrote n = record { count = n; number = 0 }
 pub record Builds : Type 0 where
   pub ldata : Building.LDataBuildPromise 0xBC 0x60 0x1105 0x0803 0x54 0x240 6 (0x2A ∷ []) (nines ++ nines) (wrote 10)
       (0xBC ∷ 0x60 ∷ 0x11 ∷ 0x05 ∷ 0x08 ∷ 0x03 ∷ 0x03 ∷ 0x56 ∷ 0x46 ∷ 0x2A ∷ replicate 8 9)
+  -- one byte, L is 2; T_Nak of sequence 5, whose TPCI byte is given as D4
+  pub ldata-standard : Building.LDataBuildStandardPromise 0xBC 0x60 0x1105 0x0803 0x54 0x240 6 (0x2A ∷ []) (nines ++ nines) (wrote 10)
+      (0xBC ∷ 0x60 ∷ 0x11 ∷ 0x05 ∷ 0x08 ∷ 0x03 ∷ 0x02 ∷ 0x56 ∷ 0x46 ∷ 0x2A ∷ replicate 8 9)
+  pub ldata-nak : Building.LDataBuildStandardPromise 0xB0 0x60 0x1105 0x120A 0xD4 3 64 [] nines (wrote 8) (0xB0 ∷ 0x60 ∷ 0x11 ∷ 0x05 ∷ 0x12 ∷ 0x0A ∷ 0x00 ∷ 0xD7 ∷ 9 ∷ [])
   pub connect-request : Building.ConnectRequestPromise control other (nines ++ nines ++ nines) (wrote 26)
       (0x06 ∷ 0x10 ∷ 0x02 ∷ 0x05 ∷ 0x00 ∷ 0x1A ∷ endpointBytes ++ otherBytes ++ 0x04 ∷ 0x04 ∷ 0x02 ∷ 0x00 ∷ 9 ∷ [])
   pub state-request : Building.ConnectionStateRequestPromise 0x15 control (nines ++ nines) (wrote 16)
@@ -147,6 +192,8 @@ pub builds : Builds
 unfolding tpciOf recordsIn behind
 builds = record {
   ldata = record { answer = Bytes 10; keeps = (refl, refl); tells = refl };
+  ldata-standard = record { answer = Bytes 10; keeps = (refl, refl); tells = refl };
+  ldata-nak = record { answer = Bytes 8; keeps = (refl, refl); tells = refl };
   connect-request = record { answer = Bytes 26; keeps = (refl, refl); tells = refl };
   state-request = record { answer = Bytes 16; keeps = (refl, refl); tells = refl };
   disconnect-request = record { answer = Bytes 16; keeps = (refl, refl); tells = refl };

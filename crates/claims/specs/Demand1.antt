@@ -24,9 +24,11 @@ use Rattle.constants.specs.declared.message_codes.CEMIMessageCodeAnswer.{CEMIMe
 use Rattle.constants.specs.declared.services.ServiceType.{ServiceType}
 use Rattle.constants.specs.declared.services.ServiceAnswer.{ServiceAnswer}
 use Rattle.pci.specs.Transport.{isData}
-use Rattle.ldata.specs.Count.{startOf, crateCount}
+use Rattle.ldata.specs.Count.{startOf, crateCount, standardCount, countBy}
 use Rattle.ldata.specs.LData as LData
 use Rattle.ldata.specs.Builder as LDataBuilder
+use Rattle.ldata.specs.declared.count.Counting.{Counting}
+use Rattle.ldata.specs.declared.count.Counting.the-variants.{Crate, Standard}
 use Rattle.ldata.specs.declared.ldata.LDataFields.{LDataFields}
 use Rattle.ldata.specs.declared.ldata.LDataAnswer.{LDataAnswer}
 use Rattle.ldata.specs.declared.builder.LDataBuilder.{LDataBuilder}
@@ -149,24 +151,41 @@ message-code-from n r = judged-refusing (check MessageCodes.messageCodes n ∷ [
 
 -- ---- ldata
 
+-- ldata::LDataFields::parse_in
+pub ldata-parse-in : (c : Counting) (s : List ℕ) (r : LDataAnswer) → LData.ParseInPromise c s r → Refusing (LData.told r)
+ldata-parse-in c s r = judged-refusing (LData.byteChecks (countBy c) s) (done (LData.valuesIn (countBy c) s)) (LData.told r) refl
+
 -- ldata::LDataFields::parse
 pub ldata-parse : (s : List ℕ) (r : LDataAnswer) → LData.ParsePromise s r → Refusing (LData.told r)
-ldata-parse s r = judged-refusing (LData.byteChecks crateCount s) (done (LData.valuesIn s)) (LData.told r) refl
+ldata-parse = ldata-parse-in Crate
+
+-- ldata::LDataFields::data_in
+pub ldata-data-in : (c : Counting) (f : LDataFields) (s : List ℕ) (r : View) → LData.DataInPromise c f s r → Refusing (Parts.told r)
+ldata-data-in c f s r =
+    judged-refusing (LData.recordChecks (countBy c) f (length s)) (viewed (startOf (isData (f .tpci))) (countBy c .endOf (f .«npdu_length»))) (Parts.told r) refl
 
 -- ldata::LDataFields::data
 pub ldata-data : (f : LDataFields) (s : List ℕ) (r : View) → LData.DataPromise f s r → Refusing (Parts.told r)
-ldata-data f s r =
-    judged-refusing (LData.recordChecks crateCount f (length s)) (viewed (startOf (isData (f .tpci))) (crateCount .endOf (f .«npdu_length»))) (Parts.told r) refl
+ldata-data = ldata-data-in Crate
+
+-- ldata::LDataFields::data_part_in
+pub ldata-data-part-in : (c : Counting) (f : LDataFields) (s r : List ℕ) (e : Refusal) → LData.DataPartInPromise c f s r → verdict (LData.recordChecks (countBy c) f (length s)) ≡ Refuse e → r ≡ []
+ldata-data-part-in c f s r e p q =
+    p ∙ shown-refused (LData.recordChecks (countBy c) f (length s)) (viewed (startOf (isData (f .tpci))) (countBy c .endOf (f .«npdu_length»))) e s q
 
 -- ldata::LDataFields::data_part
 pub ldata-data-part : (f : LDataFields) (s r : List ℕ) (e : Refusal) → LData.DataPartPromise f s r → verdict (LData.recordChecks crateCount f (length s)) ≡ Refuse e → r ≡ []
-ldata-data-part f s r e p q =
-    p ∙ shown-refused (LData.recordChecks crateCount f (length s)) (viewed (startOf (isData (f .tpci))) (crateCount .endOf (f .«npdu_length»))) e s q
+ldata-data-part = ldata-data-part-in Crate
+
+-- ldata::LDataBuilder::build_in
+pub ldata-build-in : (c : Counting) (b : LDataBuilder) (d buf : List ℕ) (r : Written) (after : List ℕ)
+    → LDataBuilder.BuildInPromise c b d buf r after → Refusing (Writing.told r) × Leaves (Writing.told r) buf after
+ldata-build-in c b d buf = writes-refusing (LDataBuilder.checksIn (countBy c) b (length d) (length buf)) (LDataBuilder.frameIn (countBy c) b d) buf
 
 -- ldata::LDataBuilder::build
 pub ldata-build : (b : LDataBuilder) (d buf : List ℕ) (r : Written) (after : List ℕ)
     → LDataBuilder.BuildPromise b d buf r after → Refusing (Writing.told r) × Leaves (Writing.told r) buf after
-ldata-build b d buf = writes-refusing (LDataBuilder.checks b (length d) (length buf)) (LDataBuilder.layout b (length d + 2) d) buf
+ldata-build = ldata-build-in Crate
 
 -- ---- additional_info
 
@@ -222,10 +241,14 @@ cemi-service-info s r = judged-refusing (Cemi.checks s ++ Cemi.infoCheck s ∷ [
 pub cemi-service-info-part : (s r : List ℕ) (e : Refusal) → Cemi.ServiceInfoPartPromise s r → verdict (Cemi.checks s ++ Cemi.infoCheck s ∷ []) ≡ Refuse e → r ≡ []
 cemi-service-info-part s r e p q = p ∙ shown-refused (Cemi.checks s ++ Cemi.infoCheck s ∷ []) (viewed (2 + Cemi.infoLength s) (length s)) e s q
 
+-- cemi::CEMIFrame::as_ldata_in
+pub cemi-as-ldata-in : (c : Counting) (f : CEMIFrame) (s : List ℕ) (r : LDataAnswer) → Cemi.AsLDataInPromise c f s r → Refusing (LData.told r)
+cemi-as-ldata-in c f s r =
+    judged-refusing (Cemi.checks s ++ Cemi.ldataChecks f s ++ LData.byteChecks (countBy c) (Cemi.serviceInfo s)) (done (LData.valuesIn (countBy c) (Cemi.serviceInfo s))) (LData.told r) refl
+
 -- cemi::CEMIFrame::as_ldata
 pub cemi-as-ldata : (f : CEMIFrame) (s : List ℕ) (r : LDataAnswer) → Cemi.AsLDataPromise f s r → Refusing (LData.told r)
-cemi-as-ldata f s r =
-    judged-refusing (Cemi.checks s ++ Cemi.ldataChecks f s ++ LData.byteChecks crateCount (Cemi.serviceInfo s)) (done (LData.valuesIn (Cemi.serviceInfo s))) (LData.told r) refl
+cemi-as-ldata = cemi-as-ldata-in Crate
 
 -- ---- header
 
@@ -447,30 +470,46 @@ knxnet-ip-body-number = KnxnetIpFrameLaws.view-none
 pub knxnet-ip-body-in : (s r : List ℕ) (e : Refusal) → verdict (Frame.checks (length s) (get Header.fields 0 s)) ≡ Refuse e → KnxnetIpFrame.BodyInPromise s r → r ≡ []
 knxnet-ip-body-in s r e v q = q ∙ shown-refused (Frame.checks (length s) (get Header.fields 0 s)) (viewed 6 (Header.totalIn (get Header.fields 0 s))) e s v
 
+-- borrowed::LDataFrame::parse_in
+pub ldata-frame-parse-in : (c : Counting) (s : List ℕ) (r : LDataFrame) → LDataFrame.ParseInPromise c s r → Refusing (LData.told (r .answer))
+ldata-frame-parse-in c s r p = ldata-parse-in c s (r .answer) (p .1)
+
+pub ldata-frame-borrows : (c : Counting) (s : List ℕ) (r : LDataFrame) (e : Refusal) → LDataFrame.ParseInPromise c s r → r .answer ≡ LDataAnswer.Refused e → now (r .«data») ≡ []
+ldata-frame-borrows = LDataFrameLaws.borrows-none
+
 -- borrowed::LDataFrame::parse
 pub ldata-frame-parse : (s : List ℕ) (r : LDataFrame) → LDataFrame.ParsePromise s r → Refusing (LData.told (r .answer))
-ldata-frame-parse s r p = ldata-parse s (r .answer) (p .1)
+ldata-frame-parse = ldata-frame-parse-in Crate
 
-pub ldata-frame-borrows : (s : List ℕ) (r : LDataFrame) (e : Refusal) → LDataFrame.ParsePromise s r → r .answer ≡ LDataAnswer.Refused e → now (r .«data») ≡ []
-ldata-frame-borrows = LDataFrameLaws.borrows-none
+-- borrowed::LDataFrame::data_in
+pub ldata-frame-data-of : (c : Counting) (f : LDataFrame) (e : Refusal) (r : List ℕ) → f .answer ≡ LDataAnswer.Refused e → LDataFrame.FrameDataInPromise c f r → r ≡ []
+ldata-frame-data-of = LDataFrameLaws.data-none
+
+pub ldata-frame-data-part : (c : Counting) (f : LDataFrame) (v : View) (r : List ℕ) → LDataFrame.DataViewInPromise c (now (f .«data»)) (f .answer) v → LDataFrame.FrameDataInPromise c f r → (v .number ≡ 0 → ⊥) → r ≡ []
+ldata-frame-data-part = LDataFrameLaws.data-refused
 
 -- borrowed::LDataFrame::data
 pub ldata-frame-data : (f : LDataFrame) (e : Refusal) (r : List ℕ) → f .answer ≡ LDataAnswer.Refused e → LDataFrame.DataPromise f r → r ≡ []
-ldata-frame-data = LDataFrameLaws.data-none
+ldata-frame-data = ldata-frame-data-of Crate
 
-pub ldata-frame-data-part : (f : LDataFrame) (v : View) (r : List ℕ) → LDataFrame.DataViewPromise (now (f .«data»)) (f .answer) v → LDataFrame.DataPromise f r → (v .number ≡ 0 → ⊥) → r ≡ []
-ldata-frame-data-part = LDataFrameLaws.data-refused
+-- borrowed::data_view_in
+pub ldata-frame-data-view-in : (c : Counting) (s : List ℕ) (a : LDataAnswer) (r : View) → LDataFrame.DataViewInPromise c s a r → Refusing (Parts.told r)
+ldata-frame-data-view-in = LDataFrameLaws.view-refusing
+
+pub ldata-frame-data-number : (c : Counting) (s : List ℕ) (a : LDataAnswer) (e : Refusal) (r : View) → a ≡ LDataAnswer.Refused e → LDataFrame.DataViewInPromise c s a r → Parts.told r ≡ refused 0 e
+ldata-frame-data-number = LDataFrameLaws.view-none
 
 -- borrowed::data_view
 pub ldata-frame-data-view : (s : List ℕ) (a : LDataAnswer) (r : View) → LDataFrame.DataViewPromise s a r → Refusing (Parts.told r)
-ldata-frame-data-view = LDataFrameLaws.view-refusing
+ldata-frame-data-view = ldata-frame-data-view-in Crate
 
-pub ldata-frame-data-number : (s : List ℕ) (a : LDataAnswer) (e : Refusal) (r : View) → a ≡ LDataAnswer.Refused e → LDataFrame.DataViewPromise s a r → Parts.told r ≡ refused 0 e
-ldata-frame-data-number = LDataFrameLaws.view-none
+-- borrowed::data_in_count
+pub ldata-frame-data-in-count : (c : Counting) (s r : List ℕ) (e : Refusal) → LData.ParseInPromise c s (LDataAnswer.Refused e) → LDataFrame.DataInCountPromise c s r → r ≡ []
+ldata-frame-data-in-count c s r e p q = q ∙ LDataFrameLaws.refused-data c s e p
 
 -- borrowed::data_in
 pub ldata-frame-data-in : (s r : List ℕ) (e : Refusal) → LData.ParsePromise s (LDataAnswer.Refused e) → LDataFrame.DataInPromise s r → r ≡ []
-ldata-frame-data-in s r e p q = q ∙ LDataFrameLaws.refused-data s e p
+ldata-frame-data-in = ldata-frame-data-in-count Crate
 
 -- ---- tunnel_image
 
@@ -496,6 +535,10 @@ knx-connect-response s r = connect-response-parse s (KnxReading.responseAnswer r
 pub knx-cemi-ldata : (s : List ℕ) (r : KnxLData) → CemiLData.CemiLDataPromise s r → Refusing (CemiLData.told r)
 knx-cemi-ldata s r = judged-refusing (CemiLData.checks s) (CemiLData.ldataIn s) (CemiLData.told r) refl
 
+-- knx::knx_cemi_ldata_standard
+pub knx-cemi-ldata-standard : (s : List ℕ) (r : KnxLData) → CemiLData.CemiLDataStandardPromise s r → Refusing (CemiLData.told r)
+knx-cemi-ldata-standard s r = judged-refusing (CemiLData.checksIn standardCount s) (CemiLData.numbersIn standardCount s) (CemiLData.told r) refl
+
 -- knx::knx_cemi_additional_info
 pub knx-cemi-info : (s : List ℕ) (r : KnxPart) → KnxInfo.AreaPromise s r → Refusing (KnxInfo.toldPart r)
 knx-cemi-info s r = judged-refusing (Cemi.checks s ++ Cemi.infoCheck s ∷ []) (viewed 2 (2 + Cemi.infoLength s)) (KnxInfo.toldPart r) refl
@@ -515,12 +558,22 @@ knx-info-count s r = judged-refusing (Area.areaCheck s ∷ []) (done (length (Ar
 abbrev pub ToldRefuses : List ℕ → KnxWritten → List ℕ → Type 0
 ToldRefuses b r after = Refusing (Building.told r) × Leaves (Building.told r) b after
 
+-- in either count
+knx-ldata-build-in : (c : Counting) (control-1 control-2 source destination tpci code six : ℕ) (d b : List ℕ) (r : KnxWritten) (after : List ℕ)
+    → Building.LDataBuildInPromise c control-1 control-2 source destination tpci code six d b r after → ToldRefuses b r after
+knx-ldata-build-in c control-1 control-2 source destination tpci code six d b =
+    let q = Building.builderOf control-1 control-2 source destination tpci code six in
+    tells-refusing (LDataBuilder.BuildInPromise c q d b) b (ldata-build-in c q d b)
+
 -- knx::knx_ldata_build
 pub knx-ldata-build : (control-1 control-2 source destination tpci code six : ℕ) (d b : List ℕ) (r : KnxWritten) (after : List ℕ)
     → Building.LDataBuildPromise control-1 control-2 source destination tpci code six d b r after → ToldRefuses b r after
-knx-ldata-build control-1 control-2 source destination tpci code six d b =
-    let q = Building.builderOf control-1 control-2 source destination tpci code six in
-    tells-refusing (LDataBuilder.BuildPromise q d b) b (ldata-build q d b)
+knx-ldata-build = knx-ldata-build-in Crate
+
+-- knx::knx_ldata_build_standard
+pub knx-ldata-build-standard : (control-1 control-2 source destination tpci code six : ℕ) (d b : List ℕ) (r : KnxWritten) (after : List ℕ)
+    → Building.LDataBuildStandardPromise control-1 control-2 source destination tpci code six d b r after → ToldRefuses b r after
+knx-ldata-build-standard = knx-ldata-build-in Standard
 
 -- knx::knx_connect_request
 pub knx-connect-request : (control other : KnxEndpoint) (b : List ℕ) (r : KnxWritten) (after : List ℕ) → Building.ConnectRequestPromise control other b r after → ToldRefuses b r after
@@ -646,12 +699,14 @@ knx-table-datagram bytes before image = knx-table-calls image (Datagram bytes be
 -- pci::Tpci::from_byte
 -- pci::Tpci::is_data
 -- pci::Tpci::sequence
+-- pci::control_code_in
 -- pci::kind_in
 -- pci::sequence_in
 -- pci::code_in
 -- pci::is_named_in
 -- ldata::data_start
--- ldata::data_end
+-- ldata::Counting::data_end
+-- ldata::Counting::allows
 -- ldata::LDataFields::destination_group
 -- ldata::LDataFields::destination_individual
 -- ldata::LDataFields::is_group_write

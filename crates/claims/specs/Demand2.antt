@@ -32,12 +32,15 @@ use Rattle.control.specs.declared.second.ControlField2.{ControlField2}
 use Rattle.pci.specs.Application as Application
 use Rattle.pci.specs.PciLaws as PciLaws
 use Rattle.pci.specs.declared.application.Apci.the-variants as Apci
-use Rattle.ldata.specs.Count.{crateCount}
+use Rattle.ldata.specs.Count.{crateCount, countBy}
+use Rattle.ldata.specs.CountLaws.{lawful}
 use Rattle.ldata.specs.LData as LData
 use Rattle.ldata.specs.LDataLaws as LDataLaws
 use Rattle.ldata.specs.Builder as LDataBuilder
 use Rattle.ldata.specs.BuilderLaws as LDataBuilderLaws
 use Rattle.ldata.specs.RoundTrip as LDataRoundTrip
+use Rattle.ldata.specs.declared.count.Counting.{Counting}
+use Rattle.ldata.specs.declared.count.Counting.the-variants.{Crate}
 use Rattle.ldata.specs.declared.ldata.LDataFields.{LDataFields}
 use Rattle.ldata.specs.declared.ldata.LDataAnswer.{LDataAnswer}
 use Rattle.ldata.specs.declared.ldata.LDataAnswer.the-variants as LDataAnswer
@@ -157,53 +160,52 @@ frame-builds = FrameRoundTrip.builds
 
 -- ---- L_Data: what is built of a builder's fields and data is read back, and so is what a builder wrote
 
--- fields and data that the builder takes
-abbrev pub ldataProper : LDataBuilder × List ℕ → Type 0
-ldataProper x = LDataBuilderLaws.Builds (x .0) (length (x .1)) (9 + length (x .1))
+-- fields and data that the builder takes, with room for the frame
+abbrev pub ldataProper : Counting → LDataBuilder × List ℕ → Type 0
+ldataProper c x = verdict (LDataBuilder.checksIn (countBy c) (x .0) (length (x .1)) (LDataRoundTrip.sizeIn (countBy c) (x .0) (length (x .1)))) ≡ Accept
 
-abbrev pub ldataBytes : LDataBuilder × List ℕ → List ℕ
-ldataBytes x = LDataBuilder.layout (x .0) (length (x .1) + 2) (x .1)
+abbrev pub ldataBytes : Counting → LDataBuilder × List ℕ → List ℕ
+ldataBytes c x = LDataBuilder.frameIn (countBy c) (x .0) (x .1)
 
-abbrev pub ldata : LDataBuilder × List ℕ → Told
-ldata x = LData.told (LDataAnswer.Frame (LDataRoundTrip.built (x .0) (length (x .1) + 2)))
+abbrev pub ldata : Counting → LDataBuilder × List ℕ → Told
+ldata c x = LData.told (LDataAnswer.Frame (LDataRoundTrip.builtIn (countBy c) (x .0) (length (x .1))))
 
-pub ldata-reads-back : ReadsBack ldataProper ldataBytes ldata (LData.parseBy01 crateCount)
-ldata-reads-back x rest p =
-    LDataRoundTrip.reads-back (x .0) (length (x .1)) (9 + length (x .1)) p crateCount (length (x .1) + 2) (x .1) rest refl (LDataRoundTrip.crate-counts (length (x .1)))
+pub ldata-reads-back : (c : Counting) → ReadsBack (ldataProper c) (ldataBytes c) (ldata c) (LData.parseBy01 (countBy c))
+ldata-reads-back c x rest p =
+    LDataRoundTrip.comes-back (countBy c) (lawful c) (x .0) (x .1) rest (LDataRoundTrip.sizeIn (countBy c) (x .0) (length (x .1))) p .fields-back
 
--- wherever 01 lets it, an L_Data builder counts what it wrote, and fields, data and later bytes come back
-pub record LDataBack (b : LDataBuilder) (d buf after : List ℕ) : Type 0 where
-  pub fields-back : LData.parseBy01 crateCount after ≡ ldata (b, d)
-  pub data-back : shown after (LData.dataBy01 crateCount (LDataRoundTrip.built b (length d + 2)) after) ≡ d
-  pub rest-back : drop (9 + length d) after ≡ drop (9 + length d) buf
+-- wherever the document lets it, an L_Data builder counts what it wrote, and fields, data and later bytes come back
+pub record LDataBack (c : Counting) (b : LDataBuilder) (d buf after : List ℕ) : Type 0 where
+  pub fields-back : LData.parseBy01 (countBy c) after ≡ ldata c (b, d)
+  pub data-back : shown after (LData.dataBy01 (countBy c) (LDataRoundTrip.builtIn (countBy c) b (length d)) after) ≡ d
+  pub rest-back : drop (LDataRoundTrip.sizeIn (countBy c) b (length d)) after ≡ drop (LDataRoundTrip.sizeIn (countBy c) b (length d)) buf
 
-abbrev pub LDataBuilds : (LDataBuilder → List ℕ → List ℕ → Told) → (LDataBuilder → List ℕ → List ℕ → List ℕ) → Type 0
-LDataBuilds tells after =
-    (b : LDataBuilder) (d buf : List ℕ) → LDataBuilderLaws.Builds b (length d) (length buf) → (tells b d buf ≡ done ((9 + length d) ∷ [])) × LDataBack b d buf (after b d buf)
+abbrev pub LDataBuilds : Counting → (LDataBuilder → List ℕ → List ℕ → Told) → (LDataBuilder → List ℕ → List ℕ → List ℕ) → Type 0
+LDataBuilds c tells after =
+    (b : LDataBuilder) (d buf : List ℕ) → verdict (LDataBuilder.checksIn (countBy c) b (length d) (length buf)) ≡ Accept
+    → (tells b d buf ≡ done (LDataRoundTrip.sizeIn (countBy c) b (length d) ∷ [])) × LDataBack c b d buf (after b d buf)
 
--- what `LDataBuilder::build` promises to tell and to leave in its buffer
-abbrev pub ldataTells : LDataBuilder → List ℕ → List ℕ → Told
-ldataTells b d buf = tells (LDataBuilder.checks b (length d) (length buf)) (ldataBytes (b, d))
+-- what `LDataBuilder::build_in` promises to tell and to leave in its buffer
+abbrev pub ldataTells : Counting → LDataBuilder → List ℕ → List ℕ → Told
+ldataTells c b d buf = tells (LDataBuilder.checksIn (countBy c) b (length d) (length buf)) (ldataBytes c (b, d))
 
-abbrev pub ldataLeaves : LDataBuilder → List ℕ → List ℕ → List ℕ
-ldataLeaves b d buf = leaves (LDataBuilder.checks b (length d) (length buf)) (ldataBytes (b, d)) buf
+abbrev pub ldataLeaves : Counting → LDataBuilder → List ℕ → List ℕ → List ℕ
+ldataLeaves c b d buf = leaves (LDataBuilder.checksIn (countBy c) b (length d) (length buf)) (ldataBytes c (b, d)) buf
 
-pub ldata-builds : LDataBuilds ldataTells ldataLeaves
-ldata-builds b d buf may =
-    let n : ℕ = length d in
-    let w : List ℕ = ldataBytes (b, d) in
+pub ldata-builds : (c : Counting) → LDataBuilds c (ldataTells c) (ldataLeaves c)
+ldata-builds c b d buf all =
+    let w : List ℕ = ldataBytes c (b, d) in
     let rest : List ℕ = drop (length w) buf in
-    let cs : List Check = LDataBuilder.checks b n (length buf) in
-    let all : verdict cs ≡ Accept = LDataBuilderLaws.stands b n (length buf) may in
-    let counts = LDataRoundTrip.crate-counts n in
-    let long : 9 + n ≡ length w = omega arith in
+    let cs : List Check = LDataBuilder.checksIn (countBy c) b (length d) (length buf) in
+    let back = LDataRoundTrip.comes-back (countBy c) (lawful c) b d rest (length buf) all in
+    let long : length w ≡ LDataRoundTrip.sizeIn (countBy c) b (length d) = back .size in
     let into : onto buf w ≡ leaves cs w buf = sym (ap (λ (v : Verdict). lent v buf (onto buf w)) all) in
-    let stood : LDataBack b d buf (onto buf w) = record {
-      fields-back = LDataRoundTrip.reads-back b n (length buf) may crateCount (n + 2) d rest refl counts;
-      data-back = LDataRoundTrip.data-back b n (length buf) may crateCount (n + 2) d rest refl counts;
-      rest-back = ap (λ (k : ℕ). drop k (w ++ rest)) long ∙ drop-append-seam w rest ∙ ap (λ (k : ℕ). drop k buf) (sym long);
+    let stood : LDataBack c b d buf (onto buf w) = record {
+      fields-back = back .fields-back;
+      data-back = back .data-back;
+      rest-back = ap (λ (k : ℕ). drop k (w ++ rest)) (sym long) ∙ drop-append-seam w rest ∙ ap (λ (k : ℕ). drop k buf) long;
     } in
-    (let-pass cs (done (length w ∷ [])) all ∙ ap (λ (k : ℕ). done (k ∷ [])) (sym long), subst (LDataBack b d buf) into stood)
+    (let-pass cs (done (length w ∷ [])) all ∙ ap (λ (k : ℕ). done (k ∷ [])) long, subst (LDataBack c b d buf) into stood)
 
 -- ---- round trips, from what one call promises to what the next one promises
 
@@ -330,14 +332,14 @@ cemi-has-layout = CemiLaws.has-layout
 
 pub ldata-has-layout : (s : List ℕ) (f : LDataFields) → Bytes s → LData.ParsePromise s (LDataAnswer.Frame f)
     → take 8 s ≡ put LData.fields (f .ctrl1 .raw ∷ f .ctrl2 .raw ∷ f .source .0 ∷ f .«destination_raw» ∷ f .«npdu_length» ∷ getD s 7 0 ∷ [])
-ldata-has-layout s f b p = LDataLaws.has-layout crateCount s f p b (omega arith)
+ldata-has-layout s f b p = LDataLaws.has-layout crateCount s f p (lawful Crate) b
 
-pub ldata-reads : (s : List ℕ) (f : LDataFields) → LData.ParsePromise s (LDataAnswer.Frame f) → LData.values f ≡ LData.valuesIn s
+pub ldata-reads : (s : List ℕ) (f : LDataFields) → LData.ParsePromise s (LDataAnswer.Frame f) → LData.values f ≡ LData.valuesIn crateCount s
 ldata-reads = LDataLaws.read crateCount
 
 -- a control packet is never a group read, although its code is a group read's
 pub control-never-reads : (s : List ℕ) (f : LDataFields) (r : Bool) → LData.ParsePromise s (LDataAnswer.Frame f) → LData.dataByte (getD s 7 0) ≡ false → LData.IsServicePromise 0x000 f r → r ≡ false
-control-never-reads = LDataLaws.control-never
+control-never-reads s f = LDataLaws.control-never crateCount (lawful Crate) s f 0x000
 
 -- the three questions of a service are by its name: a yes says which variant it is
 pub is-group-write : (f : LDataFields) → LData.IsServicePromise 0x080 f true → f .apci ≡ Apci.GroupValueWrite
@@ -353,12 +355,12 @@ is-group-response f p = PciLaws.named-is (f .apci) 0x040 (sym p)
 
 pub ldata-build-parse : (b : LDataBuilder) (d buf : List ℕ) (n : ℕ) (after : List ℕ) (r : LDataAnswer)
     → LDataBuilder.BuildPromise b d buf (Written.Bytes n) after → LData.ParsePromise after r → r ≡ LDataAnswer.Frame (LDataRoundTrip.built b (length d + 2))
-ldata-build-parse = LDataRoundTrip.parsed
+ldata-build-parse b d buf n after r q p = LDataRoundTrip.parsed Crate b d buf n after q r p
 
 pub ldata-round-trip : (b : LDataBuilder) (d buf : List ℕ) (n : ℕ) (after : List ℕ) (f : LDataFields) (part : List ℕ) (six : ℕ)
     → LDataBuilder.BuildPromise b d buf (Written.Bytes n) after → LData.ParsePromise after (LDataAnswer.Frame f) → LData.DataPartPromise f after part
-    → Application.SixBitPromise (getD after 8 0) six → LDataRoundTrip.Back b d n f part six
-ldata-round-trip = LDataRoundTrip.round-trip
+    → Application.SixBitPromise (getD after 8 0) six → LDataRoundTrip.Back crateCount b d n f part six
+ldata-round-trip b d buf n after f part six q p taken sixth = LDataRoundTrip.round-trip Crate b d buf n after q f part six p taken sixth
 
 -- ---- the records that hold their slice, and the C border, agree with the records below them
 
@@ -366,10 +368,10 @@ pub borrowed-body : (s : List ℕ) (f : KnxnetIpFrame) (r : List ℕ) → Knxnet
 borrowed-body = KnxnetIpFrameLaws.body-in
 
 pub borrowed-data : (s : List ℕ) (f : LDataFields) → LData.ParsePromise s (LDataAnswer.Frame f) → shown s (LData.dataBy01 crateCount f s) ≡ LDataFrame.dataIn s
-borrowed-data = LDataFrameLaws.fields-data
+borrowed-data = LDataFrameLaws.fields-data Crate
 
 pub borrowed-record-data : (s : List ℕ) (f : LDataFrame) (r : List ℕ) → LDataFrame.ParsePromise s f → LDataFrame.DataPromise f r → LDataFrame.DataInPromise s r
-borrowed-record-data = LDataFrameLaws.data-in
+borrowed-record-data = LDataFrameLaws.data-in Crate
 
 -- the view of a frame is the one that `FrameFields::body` answers
 pub border-body : (s : List ℕ) (r : KnxFrame) (f : FrameFields) (v : View) → KnxReading.FramePromise s r → Frame.ParsePromise s (FrameAnswer.Frame f) → Frame.BodyPromise f s v
@@ -381,8 +383,10 @@ pub border-ldata : (s : List ℕ) (r : KnxLData) (f : CEMIFrame) (g : LDataField
     → CemiLData.CemiLDataPromise s r → Cemi.ParsePromise s (CEMIAnswer.Frame f) → Cemi.AsLDataPromise f s (LDataAnswer.Frame g) → LData.DataPromise g (Cemi.serviceInfo s) v
     → CemiLData.told r ≡ record {
       number = 0;
-      values = MessageCodes.codeOf (f .«message_code») ∷ LData.values g ++ CemiLData.sixBitIn (isData (g .tpci)) (getD (Cemi.serviceInfo s) 8 0) ∷ [];
+      values =
+          MessageCodes.codeOf (f .«message_code») ∷ take 7 (LData.values g) ++ CemiLData.apciNumbers (isData (g .tpci)) (g .apci)
+          ++ CemiLData.sixBitIn (isData (g .tpci)) (getD (Cemi.serviceInfo s) 8 0) ∷ [];
       start = 2 + Cemi.infoLength s + v .start;
       end = 2 + Cemi.infoLength s + v .end;
     }
-border-ldata = CemiLDataLaws.ldata-as
+border-ldata = CemiLDataLaws.ldata-as Crate

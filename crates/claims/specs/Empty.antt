@@ -1,15 +1,16 @@
 -- The empty versions that 01 shuts out, each by the predicate that ours has: demand 2 for parsers and builders, demand 3 for tables.
 use Prim.Native.Nat.{ℕ, suc, _≤_}
 use native.Mathlib.Omega.{arith}
-use mathlib.Core.Path.{_≡_, refl, sym, ap, _∙_}
+use mathlib.Core.Path.{_≡_, refl, sym, ap, subst, _∙_}
 use mathlib.Core.Bool.{Bool, true, false}
 use mathlib.Core.List.{List, [], _∷_, _++_}
 use mathlib.Core.Option.{none}
-use lib.ListN.{length, getD, replicate}
+use lib.ListN.{length, getD, drop, replicate}
 use lib.Seq.{getD-take, getD-drop}
 use lib.Dec.{eqb}
-use borrow.Author.Tests.{eq-eqb}
-use Rattle.wire.specs.Told.{Told, done}
+use borrow.Author.Tests.{eq-eqb, le-ltb}
+use Rattle.wire.specs.Told.{Told, done, verdict}
+use Rattle.wire.specs.declared.refusals.Verdict.the-variants.{Accept}
 use Rattle.wire.specs.declared.refusals.Refusal.the-variants.{TableFull}
 use Rattle.constants.specs.declared.services.ServiceType.{ServiceType}
 use Rattle.constants.specs.declared.services.ServiceType.the-variants.{TunnellingRequest}
@@ -18,7 +19,12 @@ use Rattle.header.specs.HeaderLaws as HeaderLaws
 use Rattle.header.specs.declared.KnxnetIpHeader.{KnxnetIpHeader}
 use Rattle.frame.specs.RoundTrip.{stands-first}
 use Rattle.pci.specs.declared.transport.Tpci.the-variants.{UnnumberedData}
-use Rattle.ldata.specs.BuilderLaws as LDataBuilderLaws
+use Rattle.ldata.specs.Count.{countBy}
+use Rattle.ldata.specs.LData as LData
+use Rattle.ldata.specs.Builder as LDataBuilder
+use Rattle.ldata.specs.RoundTrip as LDataRoundTrip
+use Rattle.ldata.specs.declared.count.Counting.{Counting}
+use Rattle.ldata.specs.declared.count.Counting.the-variants.{Crate, Standard}
 use Rattle.ldata.specs.declared.builder.LDataBuilder.{LDataBuilder}
 use Rattle.tunnel_datagram.specs.Hearing.{heardBy01}
 use Rattle.tunnel_datagram.specs.declared.hearing.Heard.{Heard}
@@ -84,27 +90,29 @@ writing control-1 = record {
   «six_bit» = 1;
 }
 
-writing-proper : (control-1 m : ℕ) → 9 ≤ m → LDataBuilderLaws.Builds (writing control-1) 0 m
-writing-proper control-1 m h = record {
-  data-packet = refl;
-  sequence-15 = omega arith;
-  code-most = omega arith;
-  code-multiple = refl;
-  six-63 = omega arith;
-  data-253 = omega arith;
-  fits = h;
-}
+-- with room for its nine bytes it is taken, in either count
+writing-proper : (c : Counting) (control-1 m : ℕ) → 9 ≤ m → verdict (LDataBuilder.checksIn (countBy c) (writing control-1) 0 m) ≡ Accept
+writing-proper Crate control-1 m h = simp (le-ltb m 9 h)
+writing-proper Standard control-1 m h = simp (le-ltb m 9 h)
 
-writings-differ : ldata (writing 0x94, []) ≡ ldata (writing 0x95, []) → ⊥
-writings-differ x = let y : _≡_ {A = ℕ} 0x94 0x95 = ap (λ (t : Told). getD (t .values) 0 0) x in omega arith
+writing-size : (c : Counting) (control-1 : ℕ) → LDataRoundTrip.sizeIn (countBy c) (writing control-1) 0 ≡ 9
+writing-size Crate control-1 = refl
+writing-size Standard control-1 = refl
 
-pub ldata-refuses-everything : (parse : List ℕ → Told) → ((s : List ℕ) → parse s .number ≡ 0 → ⊥) → ReadsBack ldataProper ldataBytes ldata parse → ⊥
-ldata-refuses-everything parse never reads =
-    never-answers ldataProper ldataBytes ldata parse reads (writing 0x94, []) (writing-proper 0x94 9 (omega arith)) refl never
+writing-takes : (c : Counting) (control-1 : ℕ) → ldataProper c (writing control-1, [])
+writing-takes c control-1 = writing-proper c control-1 (LDataRoundTrip.sizeIn (countBy c) (writing control-1) 0) (omega (arith, writing-size c control-1))
 
-pub ldata-returns-fixed : (parse : List ℕ → Told) (t : Told) → ((s : List ℕ) → parse s .number ≡ 0 → parse s ≡ t) → ReadsBack ldataProper ldataBytes ldata parse → ⊥
-ldata-returns-fixed parse t fixed reads =
-    one-record ldataProper ldataBytes ldata parse reads (writing 0x94, []) (writing 0x95, []) t (writing-proper 0x94 9 (omega arith)) (writing-proper 0x95 9 (omega arith)) refl refl writings-differ fixed
+writings-differ : (c : Counting) → ldata c (writing 0x94, []) ≡ ldata c (writing 0x95, []) → ⊥
+writings-differ Crate x = let y : _≡_ {A = ℕ} 0x94 0x95 = ap (λ (t : Told). getD (t .values) 0 0) x in omega arith
+writings-differ Standard x = let y : _≡_ {A = ℕ} 0x94 0x95 = ap (λ (t : Told). getD (t .values) 0 0) x in omega arith
+
+pub ldata-refuses-everything : (c : Counting) (parse : List ℕ → Told) → ((s : List ℕ) → parse s .number ≡ 0 → ⊥) → ReadsBack (ldataProper c) (ldataBytes c) (ldata c) parse → ⊥
+ldata-refuses-everything c parse never reads =
+    never-answers (ldataProper c) (ldataBytes c) (ldata c) parse reads (writing 0x94, []) (writing-takes c 0x94) refl never
+
+pub ldata-returns-fixed : (c : Counting) (parse : List ℕ → Told) (t : Told) → ((s : List ℕ) → parse s .number ≡ 0 → parse s ≡ t) → ReadsBack (ldataProper c) (ldataBytes c) (ldata c) parse → ⊥
+ldata-returns-fixed c parse t fixed reads =
+    one-record (ldataProper c) (ldataBytes c) (ldata c) parse reads (writing 0x94, []) (writing 0x95, []) t (writing-takes c 0x94) (writing-takes c 0x95) refl refl (writings-differ c) fixed
 
 -- a record of a type without data
 abbrev bare : ℕ → Info
@@ -130,9 +138,14 @@ writes-nothing tells f =
     let x : _≡_ {A = ℕ} 2 0 = ap (λ (t : Told). t .number) (f TunnellingRequest [] zeros (omega arith) (omega arith) .1 .fields-back) in
     omega arith
 
-pub ldata-writes-nothing : (tells : LDataBuilder → List ℕ → List ℕ → Told) → LDataBuilds tells (λ b d buf. buf) → ⊥
-ldata-writes-nothing tells f =
-    let x : _≡_ {A = ℕ} 2 0 = ap (λ (t : Told). t .number) (f (writing 0x94) [] zeros (writing-proper 0x94 10 (omega arith)) .1 .fields-back) in
+-- ten zeros are a data packet with L = 0, which neither count allows
+zeros-refused : (c : Counting) → LData.parseBy01 (countBy c) zeros .number ≡ 2
+zeros-refused Crate = refl
+zeros-refused Standard = refl
+
+pub ldata-writes-nothing : (c : Counting) (tells : LDataBuilder → List ℕ → List ℕ → Told) → LDataBuilds c tells (λ b d buf. buf) → ⊥
+ldata-writes-nothing c tells f =
+    let x : _≡_ {A = ℕ} 2 0 = sym (zeros-refused c) ∙ ap (λ (t : Told). t .number) (f (writing 0x94) [] zeros (writing-proper c 0x94 10 (omega arith)) .1 .fields-back) in
     omega arith
 
 -- a writer of additional information that writes nothing: of ten zeros the first two are a record of type 0, not 1
@@ -160,11 +173,13 @@ reports-fewer tells after changes f =
     let x = f TunnellingRequest [] zeros (omega arith) (omega arith) in
     changes TunnellingRequest [] zeros 6 (x .0) (sym (getD-drop 6 (after TunnellingRequest [] zeros) 0 0) ∙ ap (λ (l : List ℕ). getD l 0 0) (x .1 .rest-back))
 
-pub ldata-reports-fewer : (tells : LDataBuilder → List ℕ → List ℕ → Told) (after : LDataBuilder → List ℕ → List ℕ → List ℕ)
-    → ((b : LDataBuilder) (d buf : List ℕ) (n : ℕ) → tells b d buf ≡ done (n ∷ []) → getD (after b d buf) n 0 ≡ getD buf n 0 → ⊥) → LDataBuilds tells after → ⊥
-ldata-reports-fewer tells after changes f =
-    let x = f (writing 0x94) [] zeros (writing-proper 0x94 10 (omega arith)) in
-    changes (writing 0x94) [] zeros 9 (x .0) (sym (getD-drop 9 (after (writing 0x94) [] zeros) 0 0) ∙ ap (λ (l : List ℕ). getD l 0 0) (x .1 .rest-back))
+pub ldata-reports-fewer : (c : Counting) (tells : LDataBuilder → List ℕ → List ℕ → Told) (after : LDataBuilder → List ℕ → List ℕ → List ℕ)
+    → ((b : LDataBuilder) (d buf : List ℕ) (n : ℕ) → tells b d buf ≡ done (n ∷ []) → getD (after b d buf) n 0 ≡ getD buf n 0 → ⊥) → LDataBuilds c tells after → ⊥
+ldata-reports-fewer c tells after changes f =
+    let x = f (writing 0x94) [] zeros (writing-proper c 0x94 10 (omega arith)) in
+    let size = writing-size c 0x94 in
+    let later : drop 9 (after (writing 0x94) [] zeros) ≡ drop 9 zeros = subst (λ (k : ℕ). drop k (after (writing 0x94) [] zeros) ≡ drop k zeros) size (x .1 .rest-back) in
+    changes (writing 0x94) [] zeros 9 (x .0 ∙ ap (λ (k : ℕ). done (k ∷ [])) size) (sym (getD-drop 9 (after (writing 0x94) [] zeros) 0 0) ∙ ap (λ (l : List ℕ). getD l 0 0) later)
 
 -- ---- tables
 

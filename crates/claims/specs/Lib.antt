@@ -3,6 +3,7 @@ pub mod Demand1
 pub mod Demand2
 pub mod Demand3
 pub mod AdditionalInfo
+pub mod StandardCount
 pub mod Examples
 pub mod Inspection
 pub mod Empty

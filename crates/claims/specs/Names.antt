@@ -253,6 +253,9 @@ pub record PciNames : Type 0 where
   pub escape : Application.FromPromise 0x03 0xC0 (Apci.Unknown 0x3C0)
   pub code-of-write : Application.ToPromise Apci.GroupValueWrite 0x080
   pub code-of-memory-write : Application.ToPromise Apci.MemoryWrite 0x280
+  -- T_Nak with sequence 5: its control code is none of the application's
+  pub control-code : Transport.ControlCodeInPromise 0xD7 3
+  pub code-of-control : Application.ToPromise (Apci.Control 3) 3
 
 pub pci-names : PciNames
 pci-names = record {
@@ -278,6 +281,8 @@ pci-names = record {
   escape = refl;
   code-of-write = refl;
   code-of-memory-write = refl;
+  control-code = refl;
+  code-of-control = refl;
 }
 
 -- a record by control 2 and APCI
@@ -299,6 +304,7 @@ pub record Asked : Type 0 where
   pub write-response : LData.IsServicePromise 0x080 (asking 0xE0 Apci.GroupValueResponse) false
   pub read : LData.IsServicePromise 0x000 (asking 0xE0 Apci.GroupValueRead) true
   pub read-unknown : LData.IsServicePromise 0x000 (asking 0xE0 (Apci.Unknown 0x000)) false
+  pub read-control : LData.IsServicePromise 0x000 (asking 0xE0 (Apci.Control 0)) false
   pub response : LData.IsServicePromise 0x040 (asking 0xE0 Apci.GroupValueResponse) true
   pub response-read : LData.IsServicePromise 0x040 (asking 0xE0 Apci.GroupValueRead) false
   pub to-group : LData.DestinationGroupPromise (asking 0x80 Apci.GroupValueWrite) (GroupAddressAnswer.Address (record { 0 = 0x0803 }))
@@ -313,6 +319,7 @@ asked = record {
   write-response = refl;
   read = refl;
   read-unknown = refl;
+  read-control = refl;
   response = refl;
   response-read = refl;
   to-group = refl;

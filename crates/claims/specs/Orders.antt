@@ -41,7 +41,7 @@ trailed = 0x06 ∷ 0x10 ∷ 0x04 ∷ 0x21 ∷ 0x00 ∷ 0x0B ∷ 0x04 ∷ 0x15 �
 -- where the data stands in what a record that no parse made borrows
 abbrev borrowedAs : Tpci → ℕ → List ℕ → Told
 borrowedAs t l s =
-    LDataFrame.borrowedBy01 (record {
+    LDataFrame.borrowedBy01 crateCount (record {
       ctrl1 = record { raw = 0x94 };
       ctrl2 = record { raw = 0xE0 };
       source = record { 0 = 0x1105 };

@@ -26,10 +26,13 @@ use Rattle.control.specs.declared.second.ControlField2.{ControlField2}
 use Rattle.pci.specs.Transport as Transport
 use Rattle.pci.specs.Application as Application
 use Rattle.pci.specs.PciLaws as PciLaws
+use Rattle.ldata.specs.Count as Count
 use Rattle.ldata.specs.LData as LData
 use Rattle.ldata.specs.LDataLaws as LDataLaws
 use Rattle.ldata.specs.Builder as LDataBuilder
 use Rattle.ldata.specs.BuilderLaws as LDataBuilderLaws
+use Rattle.ldata.specs.declared.count.Counting.{Counting}
+use Rattle.ldata.specs.declared.count.Counting.the-variants.{Crate, Standard}
 use Rattle.additional_info.specs.InfoType as InfoType
 use Rattle.additional_info.specs.Area as Area
 use Rattle.additional_info.specs.AreaLaws as AreaLaws
@@ -321,6 +324,10 @@ tpci-is-data t r q = same
 pub tpci-sequence : One Transport.SequencePromise
 tpci-sequence t r q = same
 
+-- pci::control_code_in
+pub control-code-in : One Transport.ControlCodeInPromise
+control-code-in byte r q = same
+
 -- pci::kind_in
 pub kind-in : One Transport.KindInPromise
 kind-in byte r q = same
@@ -355,25 +362,41 @@ six-bit-value byte r q = same
 
 -- ---- ldata
 
+-- ldata::LDataFields::parse_in
+pub ldata-parse-in : One₂ LData.ParseInPromise
+ldata-parse-in = LDataLaws.parse-one
+
 -- ldata::LDataFields::parse
 pub ldata-parse : One LData.ParsePromise
-ldata-parse = LDataLaws.parse-one
+ldata-parse = LDataLaws.parse-one Crate
+
+-- ldata::LDataFields::data_in
+pub ldata-data-in : One₃ LData.DataInPromise
+ldata-data-in = LDataLaws.data-one
 
 -- ldata::LDataFields::data
 pub ldata-data : One₂ LData.DataPromise
-ldata-data = LDataLaws.data-one
+ldata-data = LDataLaws.data-one Crate
+
+-- ldata::LDataFields::data_part_in
+pub ldata-data-part-in : One₃ LData.DataPartInPromise
+ldata-data-part-in c f s r q = same
 
 -- ldata::LDataFields::data_part
 pub ldata-data-part : One₂ LData.DataPartPromise
 ldata-data-part f s r q = same
 
 -- ldata::data_start
-pub data-start : One LData.DataStartPromise
+pub data-start : One Count.DataStartPromise
 data-start d r q = same
 
--- ldata::data_end
-pub data-end : One LData.DataEndPromise
-data-end l r q = same
+-- ldata::Counting::data_end
+pub data-end : One₂ Count.DataEndPromise
+data-end c l r q = same
+
+-- ldata::Counting::allows
+pub allows : One₃ Count.AllowsPromise
+allows c d l r q = same
 
 -- ldata::LDataFields::destination_group
 pub ldata-destination-group : One LData.DestinationGroupPromise
@@ -395,9 +418,13 @@ ldata-is-group-read f r q = same
 pub ldata-is-group-response : One (LData.IsServicePromise 0x040)
 ldata-is-group-response f r q = same
 
+-- ldata::LDataBuilder::build_in
+pub ldata-build-in : Lent₃ LDataBuilder.BuildInPromise
+ldata-build-in = LDataBuilderLaws.build-one
+
 -- ldata::LDataBuilder::build
 pub ldata-build : Lent₂ LDataBuilder.BuildPromise
-ldata-build = LDataBuilderLaws.build-one
+ldata-build = LDataBuilderLaws.build-one Crate
 
 -- ---- additional_info
 
@@ -463,9 +490,13 @@ cemi-service-info = CemiLaws.service-info-one
 pub cemi-service-info-part : One Cemi.ServiceInfoPartPromise
 cemi-service-info-part s r q = same
 
+-- cemi::CEMIFrame::as_ldata_in
+pub cemi-as-ldata-in : One₃ Cemi.AsLDataInPromise
+cemi-as-ldata-in = CemiLaws.as-ldata-one
+
 -- cemi::CEMIFrame::as_ldata
 pub cemi-as-ldata : One₂ Cemi.AsLDataPromise
-cemi-as-ldata = CemiLaws.as-ldata-one
+cemi-as-ldata = CemiLaws.as-ldata-one Crate
 
 -- cemi::CEMIFrame::is_ldata
 pub cemi-is-ldata : One Cemi.IsLDataPromise
@@ -838,17 +869,33 @@ knxnet-ip-body-view s a r q x y = PartLaws.told-one r q (same x y)
 pub knxnet-ip-body-in : One KnxnetIpFrame.BodyInPromise
 knxnet-ip-body-in s r q = same
 
+-- borrowed::LDataFrame::parse_in
+pub ldata-frame-parse-in : (c : Counting) (s : List ℕ) (r q : LDataFrame) → LDataFrame.ParseInPromise c s r → LDataFrame.ParseInPromise c s q → (now (r .«data») ≡ now (q .«data»)) × (r .answer ≡ q .answer)
+ldata-frame-parse-in = LDataFrameLaws.parse-one
+
 -- borrowed::LDataFrame::parse
 pub ldata-frame-parse : (s : List ℕ) (r q : LDataFrame) → LDataFrame.ParsePromise s r → LDataFrame.ParsePromise s q → (now (r .«data») ≡ now (q .«data»)) × (r .answer ≡ q .answer)
-ldata-frame-parse = LDataFrameLaws.parse-one
+ldata-frame-parse = LDataFrameLaws.parse-one Crate
+
+-- borrowed::LDataFrame::data_in
+pub ldata-frame-data-of : One₂ LDataFrame.FrameDataInPromise
+ldata-frame-data-of c f r q = same
 
 -- borrowed::LDataFrame::data
 pub ldata-frame-data : One LDataFrame.DataPromise
 ldata-frame-data f r q = same
 
+-- borrowed::data_view_in
+pub ldata-frame-data-view-in : One₃ LDataFrame.DataViewInPromise
+ldata-frame-data-view-in c s a r q x y = PartLaws.told-one r q (same x y)
+
 -- borrowed::data_view
 pub ldata-frame-data-view : One₂ LDataFrame.DataViewPromise
-ldata-frame-data-view s a r q x y = PartLaws.told-one r q (same x y)
+ldata-frame-data-view = ldata-frame-data-view-in Crate
+
+-- borrowed::data_in_count
+pub ldata-frame-data-in-count : One₂ LDataFrame.DataInCountPromise
+ldata-frame-data-in-count c s r q = same
 
 -- borrowed::data_in
 pub ldata-frame-data-in : One LDataFrame.DataInPromise
@@ -880,7 +927,11 @@ knx-connect-response = KnxReadingLaws.connect-response-one
 
 -- knx::knx_cemi_ldata
 pub knx-cemi-ldata : One CemiLData.CemiLDataPromise
-knx-cemi-ldata = CemiLDataLaws.cemi-ldata-one
+knx-cemi-ldata = CemiLDataLaws.cemi-ldata-one Crate
+
+-- knx::knx_cemi_ldata_standard
+pub knx-cemi-ldata-standard : One CemiLData.CemiLDataStandardPromise
+knx-cemi-ldata-standard = CemiLDataLaws.cemi-ldata-one Standard
 
 -- knx::knx_cemi_additional_info
 pub knx-cemi-info : One KnxInfo.AreaPromise
@@ -908,7 +959,11 @@ knx-cemi-build = KnxInfoLaws.build-one
 
 -- knx::knx_ldata_build
 pub knx-ldata-build : (control-1 control-2 source destination tpci code six : ℕ) → Lent (Building.LDataBuildPromise control-1 control-2 source destination tpci code six)
-knx-ldata-build = BuildingLaws.ldata-build-one
+knx-ldata-build = BuildingLaws.ldata-build-one Crate
+
+-- knx::knx_ldata_build_standard
+pub knx-ldata-build-standard : (control-1 control-2 source destination tpci code six : ℕ) → Lent (Building.LDataBuildStandardPromise control-1 control-2 source destination tpci code six)
+knx-ldata-build-standard = BuildingLaws.ldata-build-one Standard
 
 -- knx::knx_connect_request
 pub knx-connect-request : Lent₂ Building.ConnectRequestPromise

@@ -10,6 +10,8 @@ use Rattle.constants.specs.Constants.{ipv4Udp}
 use Rattle.pci.specs.Transport.{kindOf, sequenceOf}
 use Rattle.pci.specs.PciLaws.{tpciOf}
 use Rattle.ldata.specs.Builder as LDataBuilder
+use Rattle.ldata.specs.declared.count.Counting.{Counting}
+use Rattle.ldata.specs.declared.count.Counting.the-variants.{Standard}
 use Rattle.ldata.specs.declared.builder.LDataBuilder.{LDataBuilder}
 use Rattle.hpai.specs.Hpai as Hpai
 use Rattle.hpai.specs.declared.Hpai.{Hpai}
@@ -53,6 +55,15 @@ builderOf control-1 control-2 source destination tpci code six = record {
 abbrev pub LDataBuildPromise : ℕ → ℕ → ℕ → ℕ → ℕ → ℕ → ℕ → List ℕ → List ℕ → KnxWritten → List ℕ → Type 0
 LDataBuildPromise control-1 control-2 source destination tpci code six «data» b r after =
     Tells (LDataBuilder.BuildPromise (builderOf control-1 control-2 source destination tpci code six) «data» b) r after
+
+-- the same in the count that is given
+abbrev pub LDataBuildInPromise : Counting → ℕ → ℕ → ℕ → ℕ → ℕ → ℕ → ℕ → List ℕ → List ℕ → KnxWritten → List ℕ → Type 0
+LDataBuildInPromise c control-1 control-2 source destination tpci code six «data» b r after =
+    Tells (LDataBuilder.BuildInPromise c (builderOf control-1 control-2 source destination tpci code six) «data» b) r after
+
+abbrev pub LDataBuildStandardPromise : ℕ → ℕ → ℕ → ℕ → ℕ → ℕ → ℕ → List ℕ → List ℕ → KnxWritten → List ℕ → Type 0
+LDataBuildStandardPromise control-1 control-2 source destination tpci code six «data» b r after =
+    LDataBuildInPromise Standard control-1 control-2 source destination tpci code six «data» b r after
 
 -- an endpoint for IPv4 over UDP
 abbrev pub endpointOf : KnxEndpoint → Hpai

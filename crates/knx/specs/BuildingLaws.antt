@@ -12,6 +12,7 @@ use Rattle.pci.specs.PciLaws.{tpciOf, tpci-back}
 use Rattle.pci.specs.declared.transport.Tpci.{Tpci}
 use Rattle.ldata.specs.Builder as LDataBuilder
 use Rattle.ldata.specs.BuilderLaws as LDataBuilderLaws
+use Rattle.ldata.specs.declared.count.Counting.{Counting}
 use Rattle.ldata.specs.declared.builder.LDataBuilder.{LDataBuilder}
 use Rattle.constants.specs.declared.services.ServiceType.the-variants as ServiceType
 use Rattle.connect.specs.Request as ConnectRequest
@@ -22,7 +23,7 @@ use Rattle.tunnelling.specs.Request as TunnelingRequest
 use Rattle.tunnelling.specs.RequestLaws as TunnelingRequestLaws
 use Rattle.tunnelling.specs.Ack as TunnelingAck
 use Rattle.tunnelling.specs.AckLaws as TunnelingAckLaws
-use Rattle.knx.specs.Building.{told, WrittenPromise, Tells, builderOf, endpointOf, connectOf, stateOf, disconnectOf, requestOf, ackOf, LDataBuildPromise, ConnectRequestPromise, ConnectionStateRequestPromise, DisconnectRequestPromise, TunnelingRequestPromise, TunnelingAckPromise}
+use Rattle.knx.specs.Building.{told, WrittenPromise, Tells, builderOf, endpointOf, connectOf, stateOf, disconnectOf, requestOf, ackOf, LDataBuildInPromise, ConnectRequestPromise, ConnectionStateRequestPromise, DisconnectRequestPromise, TunnelingRequestPromise, TunnelingAckPromise}
 use Rattle.knx.specs.declared.building.KnxEndpoint.{KnxEndpoint}
 use Rattle.knx.specs.declared.building.KnxWritten.{KnxWritten}
 
@@ -38,19 +39,21 @@ tpci-is byte t p = sym (tpci-back t []) ∙ ap (λ (vs : List ℕ). tpciOf (vs +
 told-one : (r q : KnxWritten) → told r ≡ told q → r ≡ q
 told-one = one-to-one told (λ t. record { count = getD (t .values) 0 0; number = t .number }) (λ r. refl)
 
+-- one answer, and one buffer afterwards
+abbrev OneWritten : (KnxWritten → List ℕ → Type 0) → Type 0
+OneWritten P = (r q : KnxWritten) (after later : List ℕ) → P r after → P q later → (r ≡ q) × (after ≡ later)
+
 -- a builder's promise that has no second answer has none when it is told
-pub tells-one : (P : Written → List ℕ → Type 0) → ((w v : Written) (after later : List ℕ) → P w after → P v later → (w ≡ v) × (after ≡ later))
-    → (r q : KnxWritten) (after later : List ℕ) → Tells P r after → Tells P q later → (r ≡ q) × (after ≡ later)
+pub tells-one : (P : Written → List ℕ → Type 0) → ((w v : Written) (after later : List ℕ) → P w after → P v later → (w ≡ v) × (after ≡ later)) → OneWritten (Tells P)
 tells-one P one r q after later x y =
     let both = one (x .answer) (y .answer) after later (x .keeps) (y .keeps) in
     (told-one r q (x .tells ∙ ap Writing.told (both .0) ∙ sym (y .tells)), both .1)
 
-pub ldata-build-one : (control-1 control-2 source destination tpci code six : ℕ) (d b : List ℕ) (r q : KnxWritten) (after later : List ℕ)
-    → LDataBuildPromise control-1 control-2 source destination tpci code six d b r after → LDataBuildPromise control-1 control-2 source destination tpci code six d b q later
-    → (r ≡ q) × (after ≡ later)
-ldata-build-one control-1 control-2 source destination tpci code six d b =
+pub ldata-build-one : (c : Counting) (control-1 control-2 source destination tpci code six : ℕ) (d b : List ℕ)
+    → OneWritten (LDataBuildInPromise c control-1 control-2 source destination tpci code six d b)
+ldata-build-one c control-1 control-2 source destination tpci code six d b =
     let x : LDataBuilder = builderOf control-1 control-2 source destination tpci code six in
-    tells-one (LDataBuilder.BuildPromise x d b) (LDataBuilderLaws.build-one x d b)
+    tells-one (LDataBuilder.BuildInPromise c x d b) (LDataBuilderLaws.build-one c x d b)
 
 pub connect-request-one : (control other : KnxEndpoint) (b : List ℕ) (r q : KnxWritten) (after later : List ℕ)
     → ConnectRequestPromise control other b r after → ConnectRequestPromise control other b q later → (r ≡ q) × (after ≡ later)

@@ -1,6 +1,6 @@
 // Building: L_Data and the requests, each into a lent buffer.
 ghost use mathlib.Core.Path.{_≡_};
-ghost use Rattle.knx.specs.Building.{endpointOf, WrittenPromise, LDataBuildPromise, ConnectRequestPromise, ConnectionStateRequestPromise, DisconnectRequestPromise, TunnelingRequestPromise, TunnelingAckPromise};
+ghost use Rattle.knx.specs.Building.{endpointOf, WrittenPromise, LDataBuildPromise, LDataBuildStandardPromise, LDataBuildInPromise, ConnectRequestPromise, ConnectionStateRequestPromise, DisconnectRequestPromise, TunnelingRequestPromise, TunnelingAckPromise};
 use address::IndividualAddress;
 use connect::ConnectRequest;
 use connect::ConnectionStateRequest;
@@ -8,6 +8,7 @@ use connect::DisconnectRequest;
 use control::ControlField1;
 use control::ControlField2;
 use hpai::Hpai;
+use ldata::Counting;
 use ldata::LDataBuilder;
 use pci::Tpci;
 use tunnelling::ConnectionHeader;
@@ -29,7 +30,6 @@ pub struct KnxEndpoint {
     pub port: u16,
 }
 
-// The TPCI is given by its byte, whose low two bits are APCI's and are not looked at.
 #[no_mangle]
 pub extern "C" fn knx_ldata_build(
     control_1: u8,
@@ -44,20 +44,47 @@ pub extern "C" fn knx_ldata_build(
 ) -> KnxWritten
     ensures { λ r. ⌜ LDataBuildPromise «control_1» «control_2» source destination tpci «apci_code» «six_bit» (now («data» .entry)) (now (out .entry)) r (now (out .exit)) ⌝ }
 {
-    let ctrl1 = ControlField1::from_u8(control_1);
-    let ctrl2 = ControlField2::from_u8(control_2);
-    let from = IndividualAddress::from_u16(source);
-    let packet = Tpci::from_byte(tpci);
-    let builder = LDataBuilder {
-        ctrl1,
-        ctrl2,
-        source: from,
-        destination_raw: destination,
-        tpci: packet,
+    ldata_build_in(
+        Counting::Crate,
+        control_1,
+        control_2,
+        source,
+        destination,
+        tpci,
         apci_code,
         six_bit,
-    };
-    written(builder.build(data, out))
+        data,
+        out,
+    )
+}
+
+// In KNX's own count, and for control packets too, whose control code stands in the place of the APCI code.
+#[no_mangle]
+pub extern "C" fn knx_ldata_build_standard(
+    control_1: u8,
+    control_2: u8,
+    source: u16,
+    destination: u16,
+    tpci: u8,
+    apci_code: u16,
+    six_bit: u8,
+    data: &[u8],
+    out: &mut [u8],
+) -> KnxWritten
+    ensures { λ r. ⌜ LDataBuildStandardPromise «control_1» «control_2» source destination tpci «apci_code» «six_bit» (now («data» .entry)) (now (out .entry)) r (now (out .exit)) ⌝ }
+{
+    ldata_build_in(
+        Counting::Standard,
+        control_1,
+        control_2,
+        source,
+        destination,
+        tpci,
+        apci_code,
+        six_bit,
+        data,
+        out,
+    )
 }
 
 #[no_mangle]
@@ -120,6 +147,37 @@ pub extern "C" fn knx_tunneling_ack(
 {
     let ack = TunnelingAck::new(ConnectionHeader::new(channel, sequence), status);
     written(ack.build(out))
+}
+
+// The TPCI is given by its byte, whose low two bits are not looked at.
+fn ldata_build_in(
+    counting: Counting,
+    control_1: u8,
+    control_2: u8,
+    source: u16,
+    destination: u16,
+    tpci: u8,
+    apci_code: u16,
+    six_bit: u8,
+    data: &[u8],
+    out: &mut [u8],
+) -> KnxWritten
+    ensures { λ r. ⌜ LDataBuildInPromise counting «control_1» «control_2» source destination tpci «apci_code» «six_bit» (now («data» .entry)) (now (out .entry)) r (now (out .exit)) ⌝ }
+{
+    let ctrl1 = ControlField1::from_u8(control_1);
+    let ctrl2 = ControlField2::from_u8(control_2);
+    let from = IndividualAddress::from_u16(source);
+    let packet = Tpci::from_byte(tpci);
+    let builder = LDataBuilder {
+        ctrl1,
+        ctrl2,
+        source: from,
+        destination_raw: destination,
+        tpci: packet,
+        apci_code,
+        six_bit,
+    };
+    written(builder.build_in(counting, data, out))
 }
 
 // What a builder answered, as numbers.

@@ -1,4 +1,4 @@
--- 01, "L_Data": control 1, control 2, source, destination, length L, TPCI, and for data packets APCI. Assumes nothing.
+-- 01, "L_Data": control 1, control 2, source, destination, length L, TPCI, and for data packets APCI; over how L counts. Assumes nothing.
 use Prim.Native.Nat.{ℕ}
 use mathlib.Core.Path.{_≡_}
 use mathlib.Core.Bool.{Bool, not, cond}
@@ -17,8 +17,8 @@ use Rattle.pci.specs.Transport as Transport
 use Rattle.pci.specs.Application.{codeIn, apciOf, isNamed}
 use Rattle.pci.specs.Application as Application
 use Rattle.pci.specs.declared.application.Apci.{Apci}
-use Rattle.pci.specs.declared.application.Apci.the-variants.{Unknown}
-use Rattle.ldata.specs.Count.{Count, startOf, crateCount}
+use Rattle.ldata.specs.Count.{Count, startOf, crateCount, countBy}
+use Rattle.ldata.specs.declared.count.Counting.{Counting}
 use Rattle.ldata.specs.declared.ldata.LDataFields.{LDataFields}
 use Rattle.ldata.specs.declared.ldata.LDataAnswer.{LDataAnswer}
 use Rattle.ldata.specs.declared.ldata.LDataAnswer.the-variants.{Frame, Refused}
@@ -44,29 +44,38 @@ tpciIn vs = getD vs 5 0
 abbrev pub dataByte : ℕ → Bool
 dataByte b = ltb (kindOf b) 2
 
--- the APCI of a data packet; a control packet's is `Unknown(0)`
-abbrev pub apciIn : Bool → ℕ → ℕ → Apci
-apciIn d first second = cond d (apciOf (codeIn first second)) (Unknown 0)
+-- the APCI of a data packet; a control packet's is the count's
+abbrev pub apciIn : Count → Bool → ℕ → ℕ → Apci
+apciIn C d first second = cond d (apciOf (codeIn first second)) (C .controlApci first)
 
-abbrev pub ApciPromise : Bool → ℕ → ℕ → Apci → Type 0
-ApciPromise d first second r = r ≡ apciIn d first second
+abbrev pub ApciPromise : Counting → Bool → ℕ → ℕ → Apci → Type 0
+ApciPromise c d first second r = r ≡ apciIn (countBy c) d first second
 
--- the values of a record, and those that bytes hold: the TPCI byte is kind and sequence, and APCI is named or not, and its code
+-- the values of a record, and those that bytes hold: the TPCI byte is kind and sequence, and APCI is what its code is of, and the code
 abbrev pub values : LDataFields → List ℕ
 values f = f .ctrl1 .raw ∷ f .ctrl2 .raw ∷ f .source .0 ∷ f .«destination_raw» ∷ f .«npdu_length» ∷ Transport.values (f .tpci) ++ Application.values (f .apci)
 
-abbrev pub valuesBy : List ℕ → ℕ → List ℕ
-valuesBy vs second =
-    take 5 vs ++ kindOf (tpciIn vs) ∷ sequenceOf (tpciIn vs) ∷ Application.values (apciIn (dataByte (tpciIn vs)) (tpciIn vs) second)
+abbrev pub valuesBy : Count → List ℕ → ℕ → List ℕ
+valuesBy C vs second =
+    take 5 vs ++ kindOf (tpciIn vs) ∷ sequenceOf (tpciIn vs) ∷ Application.values (apciIn C (dataByte (tpciIn vs)) (tpciIn vs) second)
 
-abbrev pub valuesIn : List ℕ → List ℕ
-valuesIn s = valuesBy (get fields 0 s) (getD s 8 0)
+abbrev pub valuesIn : Count → List ℕ → List ℕ
+valuesIn C s = valuesBy C (get fields 0 s) (getD s 8 0)
 
--- ---- checks, over how L counts
+-- ---- checks
 
--- of an input of n bytes: fewer than the least size (1), shorter than the end (2), and an L that is not allowed (2)
+-- an input of n bytes shorter than the end (2); an L that is not allowed (2)
+abbrev pub endCheck : Count → ℕ → ℕ → Check
+endCheck C n l = ltb n (C .endOf l) ⇒ InvalidFrame
+
+abbrev pub lengthCheck : Count → Bool → ℕ → Check
+lengthCheck C d l = not (C .allowed d l) ⇒ InvalidFrame
+
+-- fewer bytes than the least size (1), then these two in the count's order
 abbrev pub checks : Count → ℕ → Bool → ℕ → List Check
-checks C n d l = ltb n (C .least) ⇒ BufferTooSmall ∷ ltb n (C .endOf l) ⇒ InvalidFrame ∷ not (C .allowed d l) ⇒ InvalidFrame ∷ []
+checks C n d l =
+    ltb n (C .least) ⇒ BufferTooSmall
+    ∷ cond (C .allowedFirst) (lengthCheck C d l ∷ endCheck C n l ∷ []) (endCheck C n l ∷ lengthCheck C d l ∷ [])
 
 abbrev pub told : LDataAnswer → Told
 told (Frame f) = done (values f)
@@ -76,7 +85,7 @@ abbrev pub byteChecks : Count → List ℕ → List Check
 byteChecks C s = checks C (length s) (dataByte (tpciIn (get fields 0 s))) (lengthIn (get fields 0 s))
 
 abbrev pub parseBy01 : Count → List ℕ → Told
-parseBy01 C s = judged (byteChecks C s) (done (valuesIn s))
+parseBy01 C s = judged (byteChecks C s) (done (valuesIn C s))
 
 -- "An accessor given a record that no parse made repeats that record's parse checks first, with their numbers."
 abbrev pub recordChecks : Count → LDataFields → ℕ → List Check
@@ -87,12 +96,6 @@ dataBy01 C f s = judged (recordChecks C f (length s)) (viewed (startOf (isData (
 
 -- ---- what the functions promise, with the crate's count
 
-abbrev pub DataStartPromise : Bool → ℕ → Type 0
-DataStartPromise d r = r ≡ startOf d
-
-abbrev pub DataEndPromise : ℕ → ℕ → Type 0
-DataEndPromise l r = r ≡ crateCount .endOf l
-
 abbrev pub ParsePromise : List ℕ → LDataAnswer → Type 0
 ParsePromise s r = told r ≡ parseBy01 crateCount s
 
@@ -101,6 +104,17 @@ DataPromise f s r = Parts.told r ≡ dataBy01 crateCount f s
 
 abbrev pub DataPartPromise : LDataFields → List ℕ → List ℕ → Type 0
 DataPartPromise f s r = r ≡ shown s (dataBy01 crateCount f s)
+
+-- ---- the same in the count that they are given
+
+abbrev pub ParseInPromise : Counting → List ℕ → LDataAnswer → Type 0
+ParseInPromise c s r = told r ≡ parseBy01 (countBy c) s
+
+abbrev pub DataInPromise : Counting → LDataFields → List ℕ → View → Type 0
+DataInPromise c f s r = Parts.told r ≡ dataBy01 (countBy c) f s
+
+abbrev pub DataPartInPromise : Counting → LDataFields → List ℕ → List ℕ → Type 0
+DataPartInPromise c f s r = r ≡ shown s (dataBy01 (countBy c) f s)
 
 -- ---- whom it is for, and what it asks
 
@@ -123,6 +137,6 @@ DestinationGroupPromise f r = toldGroup r ≡ addressIf (bit 128 (f .ctrl2 .raw)
 abbrev pub DestinationIndividualPromise : LDataFields → IndividualAddressAnswer → Type 0
 DestinationIndividualPromise f r = toldIndividual r ≡ addressIf (not (bit 128 (f .ctrl2 .raw))) (f .«destination_raw»)
 
--- by its name: `Unknown` of the same code is another service
+-- by its name: `Unknown` of the same code is another service, and a control packet asks none
 abbrev pub IsServicePromise : ℕ → LDataFields → Bool → Type 0
 IsServicePromise code f r = r ≡ isNamed (f .apci) code

@@ -1,30 +1,37 @@
 -- An L_Data frame: how its parse goes on from TPCI, what it is made of, and no second answer. Proved over how L counts. Assumes nothing.
-use Prim.Native.Nat.{ℕ, _≤_}
+use Prim.Native.Nat.{ℕ, _+_, _-_, _≤_}
 use native.Mathlib.Omega.{arith}
 use mathlib.Core.Path.{_≡_, refl, sym, ap, _∙_}
-use mathlib.Core.Bool.{Bool, false, not}
-use mathlib.Core.List.{List, [], _∷_, _++_}
+use mathlib.Core.Bool.{Bool, true, false, not, cond}
+use mathlib.Core.List.{List, [], _∷_, _++_, append-nil}
 use lib.ListN.{length, getD, take, drop}
+use lib.Seq.{take-suc, take-add}
 use lib.Dec.{ltb}
 use borrow.Author.Tests.{ltb-false}
 use Rattle.wire.specs.Told.{Told, done, viewed, Check, _⇒_, verdict, judged}
-use Rattle.wire.specs.ToldLaws.{let-pass, let-refuse, holds, was-accepted, let-through, same, one-to-one, answerOf, back-refused}
+use Rattle.wire.specs.ToldLaws.{let-pass, let-refuse, is-true, holds, was-accepted, let-through, same, one-to-one, answerOf, back-refused}
 use Rattle.wire.specs.Layout.{put}
 use Rattle.wire.specs.LayoutLaws.{Bytes, put-get}
+use Rattle.wire.specs.Parts.{shown}
+use Rattle.wire.specs.PartLaws.{part-is}
 use Rattle.wire.specs.PartLaws as PartLaws
 use Rattle.wire.specs.declared.parts.View.{View}
 use Rattle.wire.specs.declared.refusals.Refusal.{Refusal}
 use Rattle.wire.specs.declared.refusals.Refusal.the-variants.{BufferTooSmall, InvalidFrame}
+use Rattle.wire.specs.declared.refusals.Verdict.{Verdict}
 use Rattle.wire.specs.declared.refusals.Verdict.the-variants.{Accept, Refuse}
 use Rattle.pci.specs.Transport.{isData}
 use Rattle.pci.specs.Transport as Transport
+use Rattle.pci.specs.Application.{isUnknown}
 use Rattle.pci.specs.Application as Application
 use Rattle.pci.specs.PciLaws.{tpciOf, tpci-back, behind-tpci, apciFrom, apci-back, no-name}
 use Rattle.pci.specs.declared.transport.Tpci.{Tpci}
 use Rattle.pci.specs.declared.transport.Tpci.the-variants.{UnnumberedData, NumberedData, UnnumberedControl, NumberedControl}
 use Rattle.pci.specs.declared.application.Apci.{Apci}
-use Rattle.ldata.specs.Count.{Count, startOf, crateCount}
-use Rattle.ldata.specs.LData.{fields, dataByte, apciIn, values, valuesIn, checks, byteChecks, told, parseBy01, dataBy01, ParsePromise, DataPromise, toldGroup, toldIndividual, DestinationGroupPromise, DestinationIndividualPromise, IsServicePromise}
+use Rattle.ldata.specs.Count.{Count, startOf}
+use Rattle.ldata.specs.CountLaws.{Lawful}
+use Rattle.ldata.specs.LData.{fields, dataByte, apciIn, values, valuesIn, endCheck, lengthCheck, checks, byteChecks, told, parseBy01, dataBy01, ParseInPromise, DataInPromise, toldGroup, toldIndividual, DestinationGroupPromise, DestinationIndividualPromise, IsServicePromise}
+use Rattle.ldata.specs.declared.count.Counting.{Counting}
 use Rattle.ldata.specs.declared.ldata.LDataFields.{LDataFields}
 use Rattle.ldata.specs.declared.ldata.LDataAnswer.{LDataAnswer}
 use Rattle.ldata.specs.declared.ldata.LDataAnswer.the-variants.{Frame, Refused}
@@ -43,11 +50,11 @@ module _ (C : Count) (s : List ℕ) (d : Bool) (kind : d ≡ dataByte (getD s 7 
   over : verdict (checks C (length s) d (getD s 6 0)) ≡ verdict (byteChecks C s)
   over = ap (λ (e : Bool). verdict (checks C (length s) e (getD s 6 0))) kind
 
-  pub stood : (f : LDataFields) → values f ≡ valuesIn s → verdict (checks C (length s) d (getD s 6 0)) ≡ Accept → told (Frame f) ≡ parseBy01 C s
-  stood f read q = ap done read ∙ sym (let-pass (byteChecks C s) (done (valuesIn s)) (sym over ∙ q))
+  pub stood : (f : LDataFields) → values f ≡ valuesIn C s → verdict (checks C (length s) d (getD s 6 0)) ≡ Accept → told (Frame f) ≡ parseBy01 C s
+  stood f read q = ap done read ∙ sym (let-pass (byteChecks C s) (done (valuesIn C s)) (sym over ∙ q))
 
   pub fell : (e : Refusal) → verdict (checks C (length s) d (getD s 6 0)) ≡ Refuse e → told (Refused e) ≡ parseBy01 C s
-  fell e q = sym (let-refuse (byteChecks C s) (done (valuesIn s)) e (sym over ∙ q))
+  fell e q = sym (let-refuse (byteChecks C s) (done (valuesIn C s)) e (sym over ∙ q))
 
 -- the kind is the first of a TPCI's values
 kind-first : (t : Tpci) (l : List ℕ) → getD (Transport.values t ++ l) 0 0 ≡ getD (Transport.values t) 0 0
@@ -64,21 +71,44 @@ pub record Stands (C : Count) (n : ℕ) (d : Bool) (l : ℕ) : Type 0 where
   pub reaches : C .endOf l ≤ n
   pub fits : not (C .allowed d l) ≡ false
 
+-- the last two checks refuse with one number, so their order does not show in the verdict
+pub last-two : (C : Count) (n : ℕ) (d : Bool) (l : ℕ) → verdict (drop 1 (checks C n d l)) ≡ verdict (endCheck C n l ∷ lengthCheck C d l ∷ [])
+last-two C n d l = go (C .allowedFirst) (ltb n (C .endOf l)) (not (C .allowed d l))
+  where
+    go : (first a b : Bool) → verdict (cond first (b ⇒ InvalidFrame ∷ a ⇒ InvalidFrame ∷ []) (a ⇒ InvalidFrame ∷ b ⇒ InvalidFrame ∷ [])) ≡ verdict (a ⇒ InvalidFrame ∷ b ⇒ InvalidFrame ∷ [])
+    go false a b = refl
+    go true true true = refl
+    go true true false = refl
+    go true false true = refl
+    go true false false = refl
+
+pub any-order : (C : Count) (n : ℕ) (d : Bool) (l : ℕ) → verdict (checks C n d l) ≡ verdict (ltb n (C .least) ⇒ BufferTooSmall ∷ endCheck C n l ∷ lengthCheck C d l ∷ [])
+any-order C n d l = ap (λ (v : Verdict). cond (ltb n (C .least)) (Refuse BufferTooSmall) v) (last-two C n d l)
+
 pub accepted : (C : Count) (n : ℕ) (d : Bool) (l : ℕ) → verdict (checks C n d l) ≡ Accept → Stands C n d l
-accepted C n d l q =
+accepted C n d l accepts =
     let small : Check = ltb n (C .least) ⇒ BufferTooSmall in
-    let short : Check = ltb n (C .endOf l) ⇒ InvalidFrame in
-    let other : Check = not (C .allowed d l) ⇒ InvalidFrame in
+    let q = sym (any-order C n d l) ∙ accepts in
     record {
-      enough = ltb-false n (C .least) (holds [] (ltb n (C .least)) BufferTooSmall (short ∷ other ∷ []) q);
-      reaches = ltb-false n (C .endOf l) (holds (small ∷ []) (ltb n (C .endOf l)) InvalidFrame (other ∷ []) q);
-      fits = holds (small ∷ short ∷ []) (not (C .allowed d l)) InvalidFrame [] q;
+      enough = ltb-false n (C .least) (holds [] (ltb n (C .least)) BufferTooSmall (endCheck C n l ∷ lengthCheck C d l ∷ []) q);
+      reaches = ltb-false n (C .endOf l) (holds (small ∷ []) (ltb n (C .endOf l)) InvalidFrame (lengthCheck C d l ∷ []) q);
+      fits = holds (small ∷ endCheck C n l ∷ []) (not (C .allowed d l)) InvalidFrame [] q;
     }
+
+-- the first eight bytes of a record, by its TPCI byte
+abbrev pub frontOf : LDataFields → ℕ → List ℕ
+frontOf f tpci = put fields (f .ctrl1 .raw ∷ f .ctrl2 .raw ∷ f .source .0 ∷ f .«destination_raw» ∷ f .«npdu_length» ∷ tpci ∷ [])
 
 module _ (C : Count) (s : List ℕ) (f : LDataFields) (parsed : told (Frame f) ≡ parseBy01 C s) where
   -- the values of the record are those that stand in the bytes
-  pub read : values f ≡ valuesIn s
-  read = ap (λ (t : Told). t .values) (let-through (byteChecks C s) (done (valuesIn s)) (told (Frame f)) refl parsed)
+  pub read : values f ≡ valuesIn C s
+  read = ap (λ (t : Told). t .values) (let-through (byteChecks C s) (done (valuesIn C s)) (told (Frame f)) refl parsed)
+
+  -- its APCI is the one that stands there
+  pub apci-read : f .apci ≡ apciIn C (dataByte (getD s 7 0)) (getD s 7 0) (getD s 8 0)
+  apci-read =
+      let stands-there : Apci = apciIn C (dataByte (getD s 7 0)) (getD s 7 0) (getD s 8 0) in
+      sym (apci-back (f .apci)) ∙ ap apciFrom (sym (behind-tpci (f .tpci) (Application.values (f .apci))) ∙ ap (drop 7) read) ∙ apci-back stands-there
 
   -- its data is where its bytes say
   pub kind-read : isData (f .tpci) ≡ dataByte (getD s 7 0)
@@ -90,22 +120,47 @@ module _ (C : Count) (s : List ℕ) (f : LDataFields) (parsed : told (Frame f) �
       ap (λ (d : Bool). of d (f .«npdu_length»)) kind-read ∙ ap (of (dataByte (getD s 7 0))) (ap (λ (vs : List ℕ). getD vs 4 0) read)
 
   pub stands : Stands C (length s) (dataByte (getD s 7 0)) (getD s 6 0)
-  stands = accepted C (length s) (dataByte (getD s 7 0)) (getD s 6 0) (was-accepted (byteChecks C s) (done (valuesIn s)) (told (Frame f)) refl parsed)
+  stands = accepted C (length s) (dataByte (getD s 7 0)) (getD s 6 0) (was-accepted (byteChecks C s) (done (valuesIn C s)) (told (Frame f)) refl parsed)
 
   -- the first eight bytes are the layout of the record and the TPCI byte
-  pub has-layout : Bytes s → 8 ≤ C .least
-      → take 8 s ≡ put fields (f .ctrl1 .raw ∷ f .ctrl2 .raw ∷ f .source .0 ∷ f .«destination_raw» ∷ f .«npdu_length» ∷ getD s 7 0 ∷ [])
-  has-layout b least =
-      sym (put-get fields 0 s b (omega (arith, stands .enough)))
+  pub has-layout : Lawful C → Bytes s
+      → take 8 s ≡ frontOf f (getD s 7 0)
+  has-layout laws b =
+      sym (put-get fields 0 s b (omega (arith, stands .enough, laws .eight)))
       ∙ ap (λ (vs : List ℕ). put fields (getD vs 0 0 ∷ getD vs 1 0 ∷ getD vs 2 0 ∷ getD vs 3 0 ∷ getD vs 4 0 ∷ getD s 7 0 ∷ [])) (sym read)
 
--- the APCI of a control packet is `Unknown(0)`, so it is no named service, not even that of code 0
-pub control-never : (s : List ℕ) (f : LDataFields) (r : Bool) → ParsePromise s (Frame f) → dataByte (getD s 7 0) ≡ false → IsServicePromise 0 f r → r ≡ false
-control-never s f r p control is =
-    let of : Bool → List ℕ = λ d. Application.values (apciIn d (getD s 7 0) (getD s 8 0)) in
-    let told-so : Application.values (f .apci) ≡ of false =
-    sym (behind-tpci (f .tpci) (Application.values (f .apci))) ∙ ap (drop 7) (read crateCount s f p) ∙ ap of control in
-    is ∙ no-name (f .apci) 0 (ap (λ (vs : List ℕ). getD vs 0 0) told-so)
+  -- what stands before the data
+  before-data : (d : Bool) → startOf d ≤ length s → take (startOf d) s ≡ take 8 s ++ cond d (getD s 8 0 ∷ []) []
+  before-data true h = take-suc s 8 0 (omega arith)
+  before-data false h = sym (append-nil (take 8 s))
+
+  -- and the whole up to its end is these bytes, the APCI byte of a data packet, and the data
+  pub laid-out : Lawful C → Bytes s → (part : List ℕ) → part ≡ shown s (dataBy01 C f s)
+      → take (C .endOf (f .«npdu_length»)) s
+      ≡ (frontOf f (getD s 7 0) ++ cond (isData (f .tpci)) (getD s 8 0 ∷ []) []) ++ part
+  laid-out laws b part is =
+      let d = dataByte (getD s 7 0) in
+      let l = getD s 6 0 in
+      let a = startOf d in
+      let e = C .endOf l in
+      let starts : a ≤ e = laws .starts d l (is-true (C .allowed d l) (stands .fits)) in
+      let together : e ≡ a + (e - a) = omega (arith, starts) in
+      let at = viewed a e in
+      let behind : part ≡ take (e - a) (drop a s) =
+      is ∙ ap (shown s) (data-read ∙ let-pass (byteChecks C s) at (was-accepted (byteChecks C s) (done (valuesIn C s)) (told (Frame f)) refl parsed)) ∙ part-is s a e starts (stands .reaches) in
+      let front : take a s ≡ frontOf f (getD s 7 0) ++ cond (isData (f .tpci)) (getD s 8 0 ∷ []) [] =
+      before-data d (omega (arith, starts, stands .reaches)) ∙ ap (λ (w : List ℕ). w ++ cond d (getD s 8 0 ∷ []) []) (has-layout laws b)
+      ∙ ap (λ (k : Bool). frontOf f (getD s 7 0) ++ cond k (getD s 8 0 ∷ []) []) (sym kind-read) in
+      ap (λ (k : ℕ). take (C .endOf k) s) (ap (λ (vs : List ℕ). getD vs 4 0) read) ∙ ap (λ (k : ℕ). take k s) together
+      ∙ take-add a (e - a) s ∙ ap (λ (w : List ℕ). w ++ take (e - a) (drop a s)) front
+      ∙ ap (λ (w : List ℕ). (frontOf f (getD s 7 0) ++ cond (isData (f .tpci)) (getD s 8 0 ∷ []) []) ++ w) (sym behind)
+
+-- a control packet asks no named service, not even that of code 0
+pub control-never : (C : Count) → Lawful C → (s : List ℕ) (f : LDataFields) (code : ℕ) (r : Bool)
+    → told (Frame f) ≡ parseBy01 C s → dataByte (getD s 7 0) ≡ false → IsServicePromise code f r → r ≡ false
+control-never C laws s f code r p control is =
+    let of : Bool → Bool = λ d. isUnknown (apciIn C d (getD s 7 0) (getD s 8 0)) in
+    is ∙ no-name (f .apci) code (ap isUnknown (apci-read C s f p) ∙ ap of control ∙ laws .unnamed (getD s 7 0))
 
 -- ---- no second answer
 
@@ -137,11 +192,11 @@ told-back (Refused e) = back-refused answered Refused 9 e
 pub told-one : (r q : LDataAnswer) → told r ≡ told q → r ≡ q
 told-one = one-to-one told (answerOf answered Refused) told-back
 
-pub parse-one : (s : List ℕ) (r q : LDataAnswer) → ParsePromise s r → ParsePromise s q → r ≡ q
-parse-one s r q a b = told-one r q (same a b)
+pub parse-one : (c : Counting) (s : List ℕ) (r q : LDataAnswer) → ParseInPromise c s r → ParseInPromise c s q → r ≡ q
+parse-one c s r q a b = told-one r q (same a b)
 
-pub data-one : (f : LDataFields) (s : List ℕ) (r q : View) → DataPromise f s r → DataPromise f s q → r ≡ q
-data-one f s r q a b = PartLaws.told-one r q (same a b)
+pub data-one : (c : Counting) (f : LDataFields) (s : List ℕ) (r q : View) → DataInPromise c f s r → DataInPromise c f s q → r ≡ q
+data-one c f s r q a b = PartLaws.told-one r q (same a b)
 
 -- the address of two values, and a function back for each kind
 abbrev groupOf : Told → GroupAddressAnswer

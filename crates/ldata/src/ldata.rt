@@ -1,8 +1,10 @@
 // `LDataFrame` without its data: the fields of an L_Data frame, whose slice stands beside it as a parameter.
 ghost use mathlib.Core.Path.{_≡_};
 ghost use Rattle.wire.specs.Told.{verdict};
-ghost use Rattle.ldata.specs.Count.{crateCount};
-ghost use Rattle.ldata.specs.LData.{checks, DataStartPromise, DataEndPromise, ApciPromise, ParsePromise, DataPromise, DataPartPromise, DestinationGroupPromise, DestinationIndividualPromise, IsServicePromise};
+ghost use Rattle.ldata.specs.Count.{countBy};
+ghost use Rattle.ldata.specs.LData.{checks, ApciPromise, ParsePromise, ParseInPromise, DataPromise, DataInPromise, DataPartPromise, DataPartInPromise, DestinationGroupPromise, DestinationIndividualPromise, IsServicePromise};
+use crate::count::Counting;
+use crate::count::data_start;
 use crate::destination::GroupAddressAnswer;
 use crate::destination::IndividualAddressAnswer;
 use address::GroupAddress;
@@ -34,20 +36,27 @@ impl LDataFields {
     // Control packets need nine bytes too, as in the Rust.
     pub const MIN_SIZE: usize = 9;
 
+    // In the crate's count, as in the Rust.
     pub fn parse(data: &[u8]) -> LDataAnswer
         ensures { λ r. ⌜ ParsePromise (now («data» .entry)) r ⌝ }
+    {
+        LDataFields::parse_in(Counting::Crate, data)
+    }
+
+    pub fn parse_in(counting: Counting, data: &[u8]) -> LDataAnswer
+        ensures { λ r. ⌜ ParseInPromise counting (now («data» .entry)) r ⌝ }
     {
         let npdu_length = wire::byte_at(data, 6);
         let tpci_byte = wire::byte_at(data, 7);
         let tpci = Tpci::from_byte(tpci_byte);
         let is_data = tpci.is_data();
-        match stands(data.len(), is_data, npdu_length) {
+        match stands(counting, data.len(), is_data, npdu_length) {
             Verdict::Accept => {
                 let ctrl1 = ControlField1::from_u8(wire::byte_at(data, 0));
                 let ctrl2 = ControlField2::from_u8(wire::byte_at(data, 1));
                 let source = IndividualAddress::from_u16(wire::word_at(data, 2));
                 let destination_raw = wire::word_at(data, 4);
-                let apci = apci_of(is_data, tpci_byte, wire::byte_at(data, 8));
+                let apci = apci_of(counting, is_data, tpci_byte, wire::byte_at(data, 8));
                 LDataAnswer::Frame(LDataFields {
                     ctrl1,
                     ctrl2,
@@ -62,17 +71,23 @@ impl LDataFields {
         }
     }
 
-    // Where the application data stands in the slice.
+    // Where the application data stands in the slice, in the crate's count.
     pub fn data(self, data: &[u8]) -> View
         ensures { λ r. ⌜ DataPromise self (now («data» .entry)) r ⌝ }
     {
+        self.data_in(Counting::Crate, data)
+    }
+
+    pub fn data_in(self, counting: Counting, data: &[u8]) -> View
+        ensures { λ r. ⌜ DataInPromise counting self (now («data» .entry)) r ⌝ }
+    {
         let tpci = self.tpci;
         let is_data = tpci.is_data();
-        match stands(data.len(), is_data, self.npdu_length) {
+        match stands(counting, data.len(), is_data, self.npdu_length) {
             Verdict::Accept => View {
                 number: 0,
                 start: data_start(is_data),
-                end: data_end(self.npdu_length),
+                end: counting.data_end(self.npdu_length),
             },
             Verdict::Refuse(why) => View::refused(why),
         }
@@ -81,7 +96,13 @@ impl LDataFields {
     pub fn data_part(self, data: &[u8]) -> &[u8]
         ensures { λ r. ⌜ DataPartPromise self (now («data» .entry)) (now r) ⌝ }
     {
-        let view = self.data(data);
+        self.data_part_in(Counting::Crate, data)
+    }
+
+    pub fn data_part_in(self, counting: Counting, data: &[u8]) -> &[u8]
+        ensures { λ r. ⌜ DataPartInPromise counting self (now («data» .entry)) (now r) ⌝ }
+    {
+        let view = self.data_in(counting, data);
         wire::part(data, view.start, view.end)
     }
 
@@ -127,43 +148,28 @@ impl LDataFields {
     }
 }
 
-// The APCI of a data packet; a control packet has none, and `Unknown(0)` stands in for it.
-fn apci_of(is_data: bool, byte1: u8, byte2: u8) -> Apci
-    ensures { λ r. ⌜ ApciPromise «is_data» byte1 byte2 r ⌝ }
+// The APCI of a data packet; a control packet's is the count's.
+fn apci_of(counting: Counting, is_data: bool, byte1: u8, byte2: u8) -> Apci
+    ensures { λ r. ⌜ ApciPromise counting «is_data» byte1 byte2 r ⌝ }
 {
     if is_data {
         return Apci::from_bytes(byte1, byte2);
     }
-    Apci::Unknown(0)
+    counting.control_apci(byte1)
 }
 
-// Where the application data starts, by the kind of packet.
-pub fn data_start(is_data: bool) -> usize
-    ensures { λ r. ⌜ DataStartPromise «is_data» r ⌝ }
+// The checks of an L_Data frame over a slice of n bytes, whoever made its fields. The last two both refuse with 2, so one order of them answers for both counts.
+fn stands(counting: Counting, n: usize, is_data: bool, npdu_length: u8) -> Verdict
+    ensures { λ r. ⌜ r ≡ verdict (checks (countBy counting) n «is_data» «npdu_length») ⌝ }
 {
-    if is_data { 9 } else { 8 }
-}
-
-// Where it ends, by L: the crate's count.
-pub fn data_end(npdu_length: u8) -> usize
-    ensures { λ r. ⌜ DataEndPromise «npdu_length» r ⌝ }
-{
-    7 + npdu_length as usize
-}
-
-// The checks of an L_Data frame over a slice of n bytes, whoever made its fields.
-fn stands(n: usize, is_data: bool, npdu_length: u8) -> Verdict
-    ensures { λ r. ⌜ r ≡ verdict (checks crateCount n «is_data» «npdu_length») ⌝ }
-{
-    if n < LDataFields::MIN_SIZE {
+    if n < counting.least() {
         return Verdict::Refuse(Refusal::BufferTooSmall);
     }
-    let end = data_end(npdu_length);
-    if n < end {
+    if n < counting.data_end(npdu_length) {
         return Verdict::Refuse(Refusal::InvalidFrame);
     }
-    if end < data_start(is_data) {
-        return Verdict::Refuse(Refusal::InvalidFrame);
+    if counting.allows(is_data, npdu_length) {
+        return Verdict::Accept;
     }
-    Verdict::Accept
+    Verdict::Refuse(Refusal::InvalidFrame)
 }

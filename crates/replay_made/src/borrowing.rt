@@ -4,6 +4,7 @@ use address::IndividualAddress;
 use control::ControlField1;
 use control::ControlField2;
 use frame::FrameAnswer;
+use ldata::Counting;
 use ldata::LDataAnswer;
 use ldata::LDataFields;
 use replay::Told;
@@ -21,18 +22,26 @@ pub(crate) fn body(args: &[u8]) -> Told {
     view(borrowed::body_view(data, answer), data)
 }
 
-// The refusal that the record holds, 0 for none, then L, kind, sequence, and the data that it holds.
 pub(crate) fn data(args: &[u8]) -> Told {
     let data = wire::part(args, 4, args.len());
+    view(borrowed::data_view(data, answer(args)), data)
+}
+
+pub(crate) fn data_standard(args: &[u8]) -> Told {
+    let data = wire::part(args, 4, args.len());
+    view(
+        borrowed::data_view_in(Counting::Standard, data, answer(args)),
+        data,
+    )
+}
+
+// The refusal that the record holds, 0 for none, then L, kind, sequence, and the data that it holds.
+fn answer(args: &[u8]) -> LDataAnswer {
     let refused = wire::byte_at(args, 0);
     if refused == 0 {
-        return view(
-            borrowed::data_view(data, LDataAnswer::Frame(fields(args))),
-            data,
-        );
+        return LDataAnswer::Frame(fields(args));
     }
-    let answer = LDataAnswer::Refused(variants::refusal_of(refused));
-    view(borrowed::data_view(data, answer), data)
+    LDataAnswer::Refused(variants::refusal_of(refused))
 }
 
 fn fields(args: &[u8]) -> LDataFields {

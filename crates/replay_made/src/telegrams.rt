@@ -4,11 +4,13 @@ use cemi::CEMIFrame;
 use cemi::InfoLengthAnswer;
 use control::ControlField1;
 use control::ControlField2;
+use ldata::Counting;
 use ldata::GroupAddressAnswer;
 use ldata::IndividualAddressAnswer;
 use ldata::LDataAnswer;
 use ldata::LDataFields;
 use replay::Told;
+use wire::View;
 
 fn frame_at(args: &[u8]) -> CEMIFrame {
     let message_code = variants::message_code_of(wire::byte_at(args, 0));
@@ -92,8 +94,21 @@ fn fields_at(args: &[u8]) -> LDataFields {
 pub(crate) fn ldata(args: &[u8]) -> Told {
     let f = fields_at(args);
     let slice = wire::part(args, 12, args.len());
-    let view = f.data(slice);
-    let rest = replay::remainder(f.data_part(slice));
+    asked(f, f.data(slice), f.data_part(slice))
+}
+
+pub(crate) fn ldata_standard(args: &[u8]) -> Told {
+    let f = fields_at(args);
+    let slice = wire::part(args, 12, args.len());
+    asked(
+        f,
+        f.data_in(Counting::Standard, slice),
+        f.data_part_in(Counting::Standard, slice),
+    )
+}
+
+fn asked(f: LDataFields, view: View, part: &[u8]) -> Told {
+    let rest = replay::remainder(part);
     let mut t = replay::few(7, [view.number as usize, view.start, view.end, rest]);
     t.values[4] = asks(f);
     t.values[5] = group(f);

@@ -1,5 +1,5 @@
 -- The variants by the numbers that recorded calls and their lines have for them. Assumes nothing.
-use Prim.Native.Nat.{ℕ, suc}
+use Prim.Native.Nat.{ℕ, suc, _%_}
 use mathlib.Core.Path.{_≡_}
 use mathlib.Core.List.{List, [], _∷_}
 use Rattle.wire.specs.Coding.{variantIn}
@@ -15,7 +15,7 @@ use Rattle.constants.specs.declared.message_codes.CEMIMessageCode.the-variants.
 use Rattle.constants.specs.declared.priorities.Priority.{Priority}
 use Rattle.constants.specs.declared.priorities.Priority.the-variants.{System, Normal, Urgent, Low}
 use Rattle.pci.specs.declared.application.Apci.{Apci}
-use Rattle.pci.specs.declared.application.Apci.the-variants.{GroupValueRead, GroupValueResponse, GroupValueWrite, IndividualAddressWrite, IndividualAddressRead, IndividualAddressResponse, AdcRead, AdcResponse, MemoryRead, MemoryResponse, MemoryWrite, DeviceDescriptorRead, DeviceDescriptorResponse, Unknown}
+use Rattle.pci.specs.declared.application.Apci.the-variants.{GroupValueRead, GroupValueResponse, GroupValueWrite, IndividualAddressWrite, IndividualAddressRead, IndividualAddressResponse, AdcRead, AdcResponse, MemoryRead, MemoryResponse, MemoryWrite, DeviceDescriptorRead, DeviceDescriptorResponse, Unknown, Control}
 use Rattle.pci.specs.declared.transport.Tpci.{Tpci}
 use Rattle.pci.specs.declared.transport.Tpci.the-variants.{UnnumberedData, NumberedData, UnnumberedControl, NumberedControl}
 
@@ -74,7 +74,7 @@ PriorityPromise p r = r ≡ priorityNumber p
 abbrev pub PriorityOfPromise : ℕ → Priority → Type 0
 PriorityOfPromise n r = r ≡ variantIn (numbered 1 (System ∷ Normal ∷ Urgent ∷ [])) Low n
 
--- ---- APCI: 0 is `Unknown`, whatever its code
+-- ---- APCI: 0 is `Unknown`, whatever its code, and 14 `Control`
 
 abbrev pub apciNumber : Apci → ℕ
 apciNumber GroupValueRead = 1
@@ -91,13 +91,14 @@ apciNumber MemoryWrite = 11
 apciNumber DeviceDescriptorRead = 12
 apciNumber DeviceDescriptorResponse = 13
 apciNumber (Unknown code) = 0
+apciNumber (Control code) = 14
 
 abbrev pub ApciPromise : Apci → ℕ → Type 0
 ApciPromise a r = r ≡ apciNumber a
 
 abbrev pub ApciOfPromise : ℕ → ℕ → Apci → Type 0
 ApciOfPromise n code r =
-    r ≡ variantIn (numbered 1 (GroupValueRead ∷ GroupValueResponse ∷ GroupValueWrite ∷ IndividualAddressWrite ∷ IndividualAddressRead ∷ IndividualAddressResponse ∷ AdcRead ∷ AdcResponse ∷ MemoryRead ∷ MemoryResponse ∷ MemoryWrite ∷ DeviceDescriptorRead ∷ DeviceDescriptorResponse ∷ [])) (Unknown code) n
+    r ≡ variantIn (numbered 1 (GroupValueRead ∷ GroupValueResponse ∷ GroupValueWrite ∷ IndividualAddressWrite ∷ IndividualAddressRead ∷ IndividualAddressResponse ∷ AdcRead ∷ AdcResponse ∷ MemoryRead ∷ MemoryResponse ∷ MemoryWrite ∷ DeviceDescriptorRead ∷ DeviceDescriptorResponse ∷ Control (code % 256) ∷ [])) (Unknown code) n
 
 -- ---- TPCI: its kind, 0 to 3, and its sequence, of which an unnumbered packet has none: 0
 

@@ -91,7 +91,7 @@ pub fn priority_of(number: u8) -> Priority
     }
 }
 
-// 0 for `Unknown`, whatever its code.
+// 0 for `Unknown` and 14 for `Control`, whatever the code.
 pub fn apci(apci: Apci) -> usize
     ensures { λ r. ⌜ ApciPromise apci r ⌝ }
 {
@@ -110,6 +110,7 @@ pub fn apci(apci: Apci) -> usize
         Apci::MemoryWrite => 11,
         Apci::DeviceDescriptorRead => 12,
         Apci::DeviceDescriptorResponse => 13,
+        Apci::Control(_) => 14,
     }
 }
 
@@ -130,6 +131,7 @@ pub fn apci_of(number: u8, code: u16) -> Apci
         11 => Apci::MemoryWrite,
         12 => Apci::DeviceDescriptorRead,
         13 => Apci::DeviceDescriptorResponse,
+        14 => Apci::Control((code % 256) as u8),
         _ => Apci::Unknown(code),
     }
 }

@@ -9,8 +9,11 @@ from-bytes-requires c κs = search needs
 returns : tie.Need-returns
 returns c = simp (c .from-bytes .ensures, c .before .if1 .taken)
 
+control-apci-requires : tie.Need-control-apci-requires
+control-apci-requires c κs = search needs
+
 returns-2 : tie.Need-returns-2
-returns-2 c = simp (c .if1 .left)
+returns-2 c = simp (c .before .if1 .left, c .control-apci .ensures)
 
 pub apci-of-spec : {M : Type 1} → statement M
-apci-of-spec = tie.close (tie.spec from-bytes-requires returns returns-2)
+apci-of-spec = tie.close (tie.spec from-bytes-requires returns control-apci-requires returns-2)

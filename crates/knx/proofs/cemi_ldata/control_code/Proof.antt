@@ -1,0 +1,23 @@
+-- `control_code` keeps its contract. Assumes nothing.
+use borrow.Author.Needs.{needs}
+use Rattle.knx.proofs.cemi_ldata.control_code.Statement.{statement}
+use Rattle.knx.proofs.cemi_ldata.control_code.Tie as tie
+
+enum-told : tie.Need-enum-told
+enum-told c = search needs
+
+enum-told-2 : tie.Need-enum-told-2
+enum-told-2 c = search needs
+
+control-code-in-requires : tie.Need-control-code-in-requires
+control-code-in-requires c κs = search needs
+
+returns : tie.Need-returns
+returns c = search needs
+
+returns-2 : tie.Need-returns-2
+returns-2 c = rw (c .before .enum-told2 .given .1) (c .control-code-in .ensures)
+
+pub control-code-spec : {M : Type 1} → statement M
+control-code-spec =
+    tie.close (tie.spec enum-told enum-told-2 control-code-in-requires returns returns-2)
