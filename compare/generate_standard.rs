@@ -40,6 +40,7 @@ pub fn systematic(size: Size, emit: Emit) {
     });
     builder(size, emit);
     broken_checks(emit);
+    control_in_the_old_count(emit);
     made_fields(size, emit);
     made_services(emit);
     held_data(size, emit);
@@ -218,6 +219,15 @@ fn broken_checks(emit: Emit) {
             };
             let args = builder_args(kind, sequence, code, six_bits, &filler(data));
             emit(68, &args, need - usize::from(bit(4)));
+        }
+    }
+}
+
+/// What this count builds and 01's does not: 01's builder refuses it all the same.
+fn control_in_the_old_count(emit: Emit) {
+    for kind in 2..4 {
+        for code in 0..4 {
+            emit(45, &builder_args(kind, 5, code, 0, &[]), 12);
         }
     }
 }
