@@ -9,7 +9,7 @@ use borrow.Author.Tests.{le-ltb}
 use Rattle.wire.specs.Clash.{never}
 use Rattle.wire.specs.Told.{done, viewed, Check, verdict, judged}
 use Rattle.wire.specs.ToldLaws.{let-pass, was-accepted, is-true}
-use Rattle.wire.specs.Parts.{shown}
+use Rattle.wire.specs.Parts.{partOf, shown}
 use Rattle.wire.specs.PartLaws.{part-between}
 use Rattle.wire.specs.Layout.{wordOf, highOf, lowOf}
 use Rattle.wire.specs.LayoutLaws.{word-split}
@@ -26,7 +26,7 @@ use Rattle.pci.specs.declared.application.Apci.the-variants.{Control}
 use Rattle.pci.specs.PciLaws.{byte-back, code-back}
 use Rattle.ldata.specs.Count.{Count, startOf, countBy}
 use Rattle.ldata.specs.CountLaws.{Controls, Lawful, lawful}
-use Rattle.ldata.specs.LData.{dataByte, apciIn, valuesIn, checks, byteChecks, told, parseBy01, ParseInPromise, dataBy01, DataPartInPromise}
+use Rattle.ldata.specs.LData.{dataByte, apciIn, values, valuesIn, checks, byteChecks, told, parseBy01, ParseInPromise, dataBy01, DataPartInPromise}
 use Rattle.ldata.specs.LDataLaws.{same-kind, any-order, told-one}
 use Rattle.ldata.specs.Builder.{tpciByte, apciByte, head, lead, layout, isControl, controlChecks, controlByte, controlFrame, checksIn, frameIn, BuildInPromise}
 use Rattle.ldata.specs.Builder as LDataBuilder
@@ -38,29 +38,24 @@ use Rattle.ldata.specs.declared.ldata.LDataFields.{LDataFields}
 use Rattle.ldata.specs.declared.ldata.LDataAnswer.{LDataAnswer}
 use Rattle.ldata.specs.declared.ldata.LDataAnswer.the-variants.{Frame}
 
--- the fields of the frame that is built: APCI by its code
-abbrev pub built : LDataBuilder → ℕ → LDataFields
-built b l = record {
+-- the record of a builder's fields with this L and this APCI
+abbrev pub made : LDataBuilder → ℕ → Apci → LDataFields
+made b l a = record {
   ctrl1 = b .ctrl1;
   ctrl2 = b .ctrl2;
   source = b .source;
   «destination_raw» = b .«destination_raw»;
   «npdu_length» = l;
   tpci = b .tpci;
-  apci = apciOf (b .«apci_code»);
+  apci = a;
 }
 
--- of a control packet: L is 0, and APCI is its control code
+-- of a data packet that is built APCI is by its code; of a control packet L is 0, and APCI is its control code
+abbrev pub built : LDataBuilder → ℕ → LDataFields
+built b l = made b l (apciOf (b .«apci_code»))
+
 abbrev pub controlBuilt : LDataBuilder → LDataFields
-controlBuilt b = record {
-  ctrl1 = b .ctrl1;
-  ctrl2 = b .ctrl2;
-  source = b .source;
-  «destination_raw» = b .«destination_raw»;
-  «npdu_length» = 0;
-  tpci = b .tpci;
-  apci = Control (b .«apci_code»);
-}
+controlBuilt b = made b 0 (Control (b .«apci_code»))
 
 -- in a count, of n bytes of data
 abbrev pub builtIn : Count → LDataBuilder → ℕ → LDataFields
@@ -70,21 +65,38 @@ builtIn C b n = cond (isControl C b) (controlBuilt b) (built b (C .lengthOf n))
 abbrev pub sizeIn : Count → LDataBuilder → ℕ → ℕ
 sizeIn C b n = cond (isControl C b) 8 (9 + n)
 
--- ---- the values of a frame by its TPCI byte, whatever packet it is
+-- ---- any packet: its first eight bytes, whose TPCI byte reads as the builder's packet, and what follows them
 
-module _ (b : LDataBuilder) (tpci : ℕ) (a : Apci) (tpci-in : Transport.FromPromise tpci (b .tpci)) where
-  values-in : (C : Count) (l : ℕ) (rest : List ℕ) → apciIn C (dataByte tpci) tpci (getD rest 0 0) ≡ a
-      → valuesIn C (head b l tpci ++ rest) ≡ b .ctrl1 .raw ∷ b .ctrl2 .raw ∷ b .source .0 ∷ b .«destination_raw» ∷ l ∷ Transport.values (b .tpci) ++ Application.values a
-  values-in C l rest apci-in =
-      let from : ℕ = b .source .0 in
-      let to : ℕ = b .«destination_raw» in
-      let read : Apci = apciIn C (dataByte tpci) tpci (getD rest 0 0) in
-      let of : ℕ → ℕ → List ℕ → Apci → List ℕ = λ x y ks z. b .ctrl1 .raw ∷ b .ctrl2 .raw ∷ x ∷ y ∷ l ∷ ks ++ Application.values z in
-      let ks : List ℕ = kindOf tpci ∷ sequenceOf tpci ∷ [] in
-      ap (λ (x : ℕ). of x (wordOf (highOf to) (lowOf to)) ks read) (word-split from)
-      ∙ ap (λ (y : ℕ). of from y ks read) (word-split to)
-      ∙ ap (λ (vs : List ℕ). of from to vs read) (sym tpci-in)
-      ∙ ap (of from to (Transport.values (b .tpci))) apci-in
+module _ (b : LDataBuilder) (l tpci : ℕ) (a : Apci) (rest : List ℕ) (C : Count) where
+  abbrev frame : List ℕ
+  frame = head b l tpci ++ rest
+
+  abbrev first : Bool
+  first = dataByte tpci
+
+  module _ (tpci-in : Transport.FromPromise tpci (b .tpci)) (accepts : verdict (checks C (length frame) first l) ≡ Accept) where
+    -- the bytes hold the values of the record
+    values-back : apciIn C first tpci (getD rest 0 0) ≡ a → valuesIn C frame ≡ values (made b l a)
+    values-back apci-in =
+        let from : ℕ = b .source .0 in
+        let to : ℕ = b .«destination_raw» in
+        let read : Apci = apciIn C first tpci (getD rest 0 0) in
+        let of : ℕ → ℕ → List ℕ → Apci → List ℕ = λ x y ks z. b .ctrl1 .raw ∷ b .ctrl2 .raw ∷ x ∷ y ∷ l ∷ ks ++ Application.values z in
+        let ks : List ℕ = kindOf tpci ∷ sequenceOf tpci ∷ [] in
+        ap (λ (x : ℕ). of x (wordOf (highOf to) (lowOf to)) ks read) (word-split from)
+        ∙ ap (λ (y : ℕ). of from y ks read) (word-split to)
+        ∙ ap (λ (vs : List ℕ). of from to vs read) (sym tpci-in)
+        ∙ ap (of from to (Transport.values (b .tpci))) apci-in
+
+    -- so the record is answered
+    fields-read : apciIn C first tpci (getD rest 0 0) ≡ a → parseBy01 C frame ≡ told (Frame (made b l a))
+    fields-read apci-in = let-pass (byteChecks C frame) (done (valuesIn C frame)) accepts ∙ ap done (values-back apci-in)
+
+    -- and its data is what stands there
+    data-there : shown frame (dataBy01 C (made b l a) frame) ≡ partOf frame (startOf first) (C .endOf l)
+    data-there =
+        ap (λ (k : Bool). shown frame (judged (checks C (length frame) k l) (viewed (startOf k) (C .endOf l)))) (same-kind tpci (b .tpci) (isData (b .tpci)) tpci-in refl)
+        ∙ ap (shown frame) (let-pass (checks C (length frame) first l) (viewed (startOf first) (C .endOf l)) accepts)
 
 -- ---- the two bytes of TPCI and APCI
 
@@ -94,17 +106,14 @@ code-in k q code six most multiple = omega arith
 six-in : (code six : ℕ) → six ≤ 63 → (code % 256 / 64 * 64 + six % 64) % 64 ≡ six
 six-in code six most = omega arith
 
--- ---- a data packet, over how L counts
+-- ---- a data packet
 
 module _ (b : LDataBuilder) (n m : ℕ) (builds : Builds b n m) where
-  tpci-in : Transport.values (b .tpci) ≡ kindOf (tpciByte b) ∷ sequenceOf (tpciByte b) ∷ []
+  tpci-in : Transport.FromPromise (tpciByte b) (b .tpci)
   tpci-in = byte-back (b .tpci) (b .«apci_code» / 256 % 4) (builds .sequence-15) (omega arith)
 
-  packet : isData (b .tpci) ≡ true
-  packet = is-true (isData (b .tpci)) (builds .data-packet)
-
   data-byte : dataByte (tpciByte b) ≡ true
-  data-byte = sym (same-kind (tpciByte b) (b .tpci) (isData (b .tpci)) tpci-in refl) ∙ packet
+  data-byte = sym (same-kind (tpciByte b) (b .tpci) (isData (b .tpci)) tpci-in refl) ∙ is-true (isData (b .tpci)) (builds .data-packet)
 
   apci-in : (C : Count) → apciIn C (dataByte (tpciByte b)) (tpciByte b) (apciByte b) ≡ apciOf (b .«apci_code»)
   apci-in C =
@@ -121,22 +130,18 @@ module _ (b : LDataBuilder) (n m : ℕ) (builds : Builds b n m) where
     long : 9 + n ≤ length whole
     long = omega (arith, length-append d rest)
 
-    passes : verdict (checks C (length whole) true l) ≡ Accept
+    passes : verdict (checks C (length whole) (dataByte (tpciByte b)) l) ≡ Accept
     passes =
-        any-order C (length whole) true l
+        ap (λ (k : Bool). verdict (checks C (length whole) k l)) data-byte ∙ any-order C (length whole) true l
         ∙ simp (le-ltb (length whole) (C .least) (omega (arith, laws .nine, long)), le-ltb (length whole) (C .endOf l) (omega (arith, laws .ends n, long)), laws .fits n (builds .data-253))
 
-    -- the frame is accepted with its own fields, whatever follows it
-    data-reads-back : parseBy01 C whole ≡ told (Frame (built b l))
-    data-reads-back =
-        let-pass (byteChecks C whole) (done (valuesIn C whole)) (ap (λ (k : Bool). verdict (checks C (length whole) k l)) data-byte ∙ passes)
-        ∙ ap done (values-in b (tpciByte b) (apciOf (b .«apci_code»)) tpci-in C l (apciByte b ∷ d ++ rest) (apci-in C))
+    data-fields-back : parseBy01 C whole ≡ told (Frame (built b l))
+    data-fields-back = fields-read b l (tpciByte b) (apciOf (b .«apci_code»)) (apciByte b ∷ d ++ rest) C tpci-in passes (apci-in C)
 
-    -- and its data is handed out
     data-data-back : shown whole (dataBy01 C (built b l) whole) ≡ d
     data-data-back =
-        ap (λ (k : Bool). shown whole (judged (checks C (length whole) k l) (viewed (startOf k) (C .endOf l)))) packet
-        ∙ ap (shown whole) (let-pass (checks C (length whole) true l) (viewed 9 (C .endOf l)) passes)
+        data-there b l (tpciByte b) (apciOf (b .«apci_code»)) (apciByte b ∷ d ++ rest) C tpci-in passes
+        ∙ ap (λ (k : Bool). partOf whole (startOf k) (C .endOf l)) data-byte
         ∙ part-between (lead b l) d rest 9 (C .endOf l) refl (omega (arith, laws .ends n, size))
 
 -- ---- a control packet, in a count that builds them
@@ -145,7 +150,7 @@ control-in : (k q code : ℕ) → code ≤ 3 → (k * 64 + q % 16 * 4 + code % 4
 control-in k q code most = omega arith
 
 module _ (b : LDataBuilder) (n m : ℕ) (builds : BuildsControl b n m) (control : isData (b .tpci) ≡ false) where
-  control-tpci-in : Transport.values (b .tpci) ≡ kindOf (controlByte b) ∷ sequenceOf (controlByte b) ∷ []
+  control-tpci-in : Transport.FromPromise (controlByte b) (b .tpci)
   control-tpci-in = byte-back (b .tpci) (b .«apci_code» % 4) (builds .sequence-15) (omega arith)
 
   control-byte : dataByte (controlByte b) ≡ false
@@ -160,20 +165,18 @@ module _ (b : LDataBuilder) (n m : ℕ) (builds : BuildsControl b n m) (control 
         ap (λ (d : Bool). apciIn C d (controlByte b) (getD rest 0 0)) control-byte ∙ laws .code (controlByte b)
         ∙ ap Control (control-in (getD (Transport.values (b .tpci)) 0 0) (getD (Transport.values (b .tpci)) 1 0) (b .«apci_code») (builds .code-3))
 
-    control-passes : verdict (checks C (length control-whole) false 0) ≡ Accept
+    control-passes : verdict (checks C (length control-whole) (dataByte (controlByte b)) 0) ≡ Accept
     control-passes =
-        any-order C (length control-whole) false 0
+        ap (λ (k : Bool). verdict (checks C (length control-whole) k 0)) control-byte ∙ any-order C (length control-whole) false 0
         ∙ simp (le-ltb (length control-whole) (C .least) (omega (arith, laws .enough)), le-ltb (length control-whole) (C .endOf 0) (omega (arith, laws .ends)), laws .fits)
 
-    control-reads-back : parseBy01 C control-whole ≡ told (Frame (controlBuilt b))
-    control-reads-back =
-        let-pass (byteChecks C control-whole) (done (valuesIn C control-whole)) (ap (λ (k : Bool). verdict (checks C (length control-whole) k 0)) control-byte ∙ control-passes)
-        ∙ ap done (values-in b (controlByte b) (Control (b .«apci_code»)) control-tpci-in C 0 rest control-apci-in)
+    control-fields-back : parseBy01 C control-whole ≡ told (Frame (controlBuilt b))
+    control-fields-back = fields-read b 0 (controlByte b) (Control (b .«apci_code»)) rest C control-tpci-in control-passes control-apci-in
 
     control-data-back : shown control-whole (dataBy01 C (controlBuilt b) control-whole) ≡ []
     control-data-back =
-        ap (λ (k : Bool). shown control-whole (judged (checks C (length control-whole) k 0) (viewed (startOf k) (C .endOf 0)))) control
-        ∙ ap (shown control-whole) (let-pass (checks C (length control-whole) false 0) (viewed 8 (C .endOf 0)) control-passes)
+        data-there b 0 (controlByte b) (Control (b .«apci_code»)) rest C control-tpci-in control-passes
+        ∙ ap (λ (k : Bool). partOf control-whole (startOf k) (C .endOf 0)) control-byte
         ∙ part-between (controlFrame b) [] rest 8 (C .endOf 0) refl (sym (laws .ends))
 
 -- ---- either, in a count
@@ -209,7 +212,7 @@ module _ (C : Count) (laws : Lawful C) (b : LDataBuilder) (d rest : List ℕ) (m
           let controls = laws .controls (is .0) in
           record {
             size = refl;
-            fields-back = control-reads-back b n m builds (is .1) C controls rest;
+            fields-back = control-fields-back b n m builds (is .1) C controls rest;
             data-back = control-data-back b n m builds (is .1) C controls rest ∙ sym (empty d (builds .no-data));
             same-code = refl;
           }
@@ -217,7 +220,7 @@ module _ (C : Count) (laws : Lawful C) (b : LDataBuilder) (d rest : List ℕ) (m
           let builds = LDataBuilderLaws.accepted b n m q in
           record {
             size = omega arith;
-            fields-back = data-reads-back b n m builds C laws d rest refl;
+            fields-back = data-fields-back b n m builds C laws d rest refl;
             data-back = data-data-back b n m builds C laws d rest refl;
             same-code = code-back (b .«apci_code»);
           }

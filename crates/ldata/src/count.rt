@@ -21,7 +21,7 @@ impl Counting {
         }
     }
 
-    // In the crate's count L may not end before the data starts.
+    // Whether a packet may have this L. In the crate's count it may not end before the data starts.
     pub fn allows(self, is_data: bool, npdu_length: u8) -> bool
         ensures { λ r. ⌜ AllowsPromise self «is_data» «npdu_length» r ⌝ }
     {
