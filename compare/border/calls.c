@@ -344,6 +344,8 @@ static void ldatas_standard(void) {
     CHECK(refused(knx_ldata_build_standard(0xBC, 0xE0, 0x1105, 0x0803, 0x00, 0x003, 0, LENT(0x2A), out, 9), 13));
     CHECK(refused(knx_ldata_build_standard(0xBC, 0xE0, 0x1105, 0x0803, 0x00, 0x080, 64, LENT(0x2A), out, 9), 13));
     CHECK(refused(knx_ldata_build_standard(0xBC, 0xE0, 0x1105, 0x0803, 0x00, 0x080, 0, large, 254, out, 9), 5));
+    CHECK(refused(knx_ldata_build_standard(0xBC, 0xE0, 0x1105, 0x0803, 0x00, 0x080, 0, large, LONG, out, 9), 5));
+    CHECK(refused(knx_ldata_build_standard(0xB0, 0x60, 0x1105, 0x120A, 0x80, 0, 0, large, LONG, out, 8), 13));
 }
 
 static void appending(void) {
