@@ -47,7 +47,7 @@ impl<'a> LDataFrame<'a> {
 pub fn data_in(bytes: &[u8]) -> &[u8]
     ensures { λ r. ⌜ DataInPromise (now (bytes .entry)) (now r) ⌝ }
 {
-    data_in_count(Counting::Crate, bytes)
+    LDataFrame::parse(bytes).data()
 }
 
 pub fn data_in_count(counting: Counting, bytes: &[u8]) -> &[u8]
