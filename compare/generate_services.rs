@@ -7,7 +7,7 @@ use crate::generate::{
 /// A second Hpai, no byte of it (but the first two) as in HPAI.
 const DATA: [u8; 8] = [8, 1, 10, 20, 30, 40, 0x12, 0x34];
 /// Two fields of one byte each: the good ones, the same swapped, the ends, any others.
-const PAIRS: [[u8; 2]; 7] = [[4, 2], [2, 4], [0, 0], [255, 255], [0, 255], [255, 0], [0x15, 0x7F]];
+pub const PAIRS: [[u8; 2]; 7] = [[4, 2], [2, 4], [0, 0], [255, 255], [0, 255], [255, 0], [0x15, 0x7F]];
 const CHANNELS: [u8; 3] = [0x15, 0, 255];
 /// Length bytes of an Hpai: the good one, its neighbours and the ends.
 const LENGTHS: [u8; 5] = [8, 7, 9, 0, 255];
@@ -59,7 +59,7 @@ fn cri_decode(size: Size, emit: Emit) {
     }
 }
 
-fn with_length(mut hpai: [u8; 8], length: u8) -> [u8; 8] {
+pub fn with_length(mut hpai: [u8; 8], length: u8) -> [u8; 8] {
     hpai[0] = length;
     hpai
 }
@@ -245,7 +245,7 @@ fn random_input(rng: &mut Rng, number: u8, size: Size) -> Vec<u8> {
 }
 
 /// The fields of an Hpai, one in eight with any two first bytes.
-fn random_fields(rng: &mut Rng) -> Vec<u8> {
+pub fn random_fields(rng: &mut Rng) -> Vec<u8> {
     let start = if rng.below(8) == 0 { rng.bytes(2) } else { HPAI[..2].into() };
     [start, rng.bytes(6)].concat()
 }
@@ -255,7 +255,7 @@ fn random_structure(rng: &mut Rng) -> Vec<u8> {
     vec![4, rng.byte(), rng.byte(), 0]
 }
 
-fn random_status(rng: &mut Rng) -> u8 {
+pub fn random_status(rng: &mut Rng) -> u8 {
     if rng.below(2) == 0 {
         0
     } else {

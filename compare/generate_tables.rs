@@ -51,10 +51,6 @@ fn send(id: u8, cemi: &[u8], buffer: usize) -> Step {
     (50, [&[id], cemi].concat(), buffer)
 }
 
-fn datagram(input: Vec<u8>, buffer: usize) -> Step {
-    (51, input, buffer)
-}
-
 fn frame(service: u16, body: &[u8]) -> Vec<u8> {
     [&header(service, 6 + body.len() as u16)[..], body].concat()
 }
@@ -63,18 +59,57 @@ fn request_input(id: u8, number: u8, cemi: &[u8]) -> Vec<u8> {
     frame(REQUEST, &[&[4, id, number, 0], cemi].concat())
 }
 
-fn ack_input(id: u8, number: u8, status: u8) -> Vec<u8> {
-    frame(ACKNOWLEDGEMENT, &[4, id, number, 0, status])
+/// The two forms of an acknowledgement, and of the datagram call with them.
+#[derive(Clone, Copy)]
+enum Form {
+    Of01,
+    Knx,
 }
 
-/// A request with three bytes of cEMI.
-fn request(id: u8, number: u8, buffer: usize) -> Step {
-    datagram(request_input(id, number, &filler(3)), buffer)
-}
+use Form::{Knx, Of01};
 
-/// An acknowledgement; the buffer has no bytes.
-fn ack(id: u8, number: u8, status: u8) -> Step {
-    datagram(ack_input(id, number, status), 0)
+const FORMS: [Form; 2] = [Of01, Knx];
+
+impl Form {
+    fn datagram(self, input: Vec<u8>, buffer: usize) -> Step {
+        match self {
+            Of01 => (51, input, buffer),
+            Knx => (76, input, buffer),
+        }
+    }
+
+    fn datagrams(self, inputs: Vec<Vec<u8>>, buffer: usize) -> Vec<Step> {
+        inputs.into_iter().map(|input| self.datagram(input, buffer)).collect()
+    }
+
+    fn ack_input(self, id: u8, number: u8, status: u8) -> Vec<u8> {
+        match self {
+            Of01 => frame(ACKNOWLEDGEMENT, &[4, id, number, 0, status]),
+            Knx => frame(ACKNOWLEDGEMENT, &[4, id, number, status]),
+        }
+    }
+
+    /// The length of an acknowledgement.
+    fn ack_length(self) -> usize {
+        match self {
+            Of01 => 11,
+            Knx => 10,
+        }
+    }
+
+    /// A request with three bytes of cEMI; the buffer holds an acknowledgement.
+    fn request(self, id: u8, number: u8) -> Step {
+        self.request_into(id, number, self.ack_length())
+    }
+
+    fn request_into(self, id: u8, number: u8, buffer: usize) -> Step {
+        self.datagram(request_input(id, number, &filler(3)), buffer)
+    }
+
+    /// An acknowledgement; the buffer has no bytes.
+    fn ack(self, id: u8, number: u8, status: u8) -> Step {
+        self.datagram(self.ack_input(id, number, status), 0)
+    }
 }
 
 fn emit_step((number, args, buffer): &Step, emit: Emit) {
@@ -97,30 +132,59 @@ fn each_alone(places: &[Place], steps: &[Step], emit: Emit) {
 pub fn systematic(size: Size, emit: Emit) {
     from_the_start(emit);
     opening(emit);
-    reopening(emit);
-    timeouts(emit);
+    reopening(Of01, emit);
+    timeouts(Of01, emit);
     sends(size, emit);
-    requests(size, emit);
-    acknowledgements(size, emit);
-    steps_from_255(emit);
-    refused_datagrams(emit);
-    odd_datagrams(emit);
-    every_place(emit);
-    doubled_ids(emit);
+    requests(Of01, size, emit);
+    acknowledgements(Of01, size, emit);
+    steps_from_255(Of01, emit);
+    refused_datagrams(Of01, emit);
+    short_bodies(Of01, emit);
+    odd_datagrams(Of01, emit);
+    every_place(Of01, emit);
+    doubled_ids(Of01, emit);
     full_of_doubled_ids(emit);
     if size.full() {
-        every_id(emit);
-        every_expected_number(emit);
+        every_id(Of01, emit);
+        every_expected_number(Of01, emit);
         long_sends(emit);
-        all_frames(size, emit);
+        all_frames(Of01, size, emit);
+    }
+    in_knx_form(size, emit);
+    mixed_requests(emit);
+    mixed_acknowledgements(size, emit);
+}
+
+/// Every sequence with a datagram once more; the sample keeps few, where the forms differ.
+fn in_knx_form(size: Size, emit: Emit) {
+    timeouts(Knx, emit);
+    steps_from_255(Knx, emit);
+    short_bodies(Knx, emit);
+    if size.full() {
+        sequence(&[], &on_an_empty_table(Knx), emit);
+        reopening(Knx, emit);
+        requests(Knx, size, emit);
+        acknowledgements(Knx, size, emit);
+        refused_datagrams(Knx, emit);
+        odd_datagrams(Knx, emit);
+        every_place(Knx, emit);
+        doubled_ids(Knx, emit);
+        every_id(Knx, emit);
+        every_expected_number(Knx, emit);
+        all_frames(Knx, size, emit);
     }
 }
 
-/// The first calls of all find the table empty: no channel is open, eight ids open, a ninth does not.
+/// No channel is open, eight ids open, a ninth does not.
+fn on_an_empty_table(form: Form) -> Vec<Step> {
+    let calls = [close(0), timeout(ID), send(ID, &filler(3), 13)];
+    let datagrams = [form.request(0, 0), form.ack(0, 0, 0)];
+    [&calls[..], &datagrams, &IDS.map(open), &[open(NINTH)]].concat()
+}
+
+/// The first calls of all find the table empty.
 fn from_the_start(emit: Emit) {
-    let none = [close(0), timeout(ID), send(ID, &filler(3), 13), request(0, 0, 11), ack(0, 0, 0)];
-    let steps = none.into_iter().chain(IDS.map(open)).chain([open(NINTH)]);
-    steps.for_each(|step| emit_step(&step, emit));
+    on_an_empty_table(Of01).iter().for_each(|step| emit_step(step, emit));
 }
 
 /// Eight channels with different numbers, some at the ends, and all ways of waiting.
@@ -145,22 +209,23 @@ fn opening(emit: Emit) {
 }
 
 /// A channel that is opened again starts at 0, 0, idle.
-fn reopening(emit: Emit) {
+fn reopening(form: Form, emit: Emit) {
     let places = [channel(IDS[0], 5, 6, FIRST), channel(ID, 7, 8, SECOND)];
-    for last in [timeout(ID), request(ID, 255, 11), request(ID, 0, 11), request(ID, 7, 11)] {
-        sequence(&places, &[close(ID), open(ID), last, send(ID, &[], 10), ack(ID, 0, 0)], emit);
+    for last in [timeout(ID), form.request(ID, 255), form.request(ID, 0), form.request(ID, 7)] {
+        let steps = [close(ID), open(ID), last, send(ID, &[], 10), form.ack(ID, 0, 0)];
+        sequence(&places, &steps, emit);
     }
-    sequence(&places, &[close(ID), request(ID, 7, 11), ack(ID, 8, 0), timeout(ID)], emit);
+    sequence(&places, &[close(ID), form.request(ID, 7), form.ack(ID, 8, 0), timeout(ID)], emit);
     sequence(&places, &[timeout(ID), open(ID), timeout(ID), send(ID, &[], 10)], emit);
 }
 
-fn timeouts(emit: Emit) {
+fn timeouts(form: Form, emit: Emit) {
     let send = || send(ID, &filler(2), 12);
     sequence(&[], &[timeout(ID), open(ID), timeout(ID)], emit);
     sequence(&[], &[open(ID), send(), timeout(ID), timeout(ID), timeout(ID)], emit);
     let places = [channel(IDS[0], 1, 2, FIRST), channel(ID, 3, 7, FIRST)];
-    sequence(&places, &[timeout(ID), ack(ID, 7, 0), timeout(ID), send(), timeout(ID)], emit);
-    sequence(&places, &[ack(ID, 7, 1), timeout(ID), ack(ID, 7, 0), open(ID)], emit);
+    sequence(&places, &[timeout(ID), form.ack(ID, 7, 0), timeout(ID), send(), timeout(ID)], emit);
+    sequence(&places, &[form.ack(ID, 7, 1), timeout(ID), form.ack(ID, 7, 0), open(ID)], emit);
 }
 
 fn sends(size: Size, emit: Emit) {
@@ -189,39 +254,43 @@ fn numbers(size: Size, middle: u8) -> Vec<u8> {
     }
 }
 
-fn requests(size: Size, emit: Emit) {
+fn requests(form: Form, size: Size, emit: Emit) {
+    let need = form.ack_length();
     for (r, wait) in [(0, IDLE), (1, FIRST), (7, SECOND), (255, IDLE), (254, FIRST), (128, IDLE)] {
         let places = [channel(IDS[0], 100, 2, wait), channel(ID, r, 50, wait)];
         for number in numbers(size, r) {
-            let steps = [0, 10, 11, 12].map(|buffer| request(ID, number, buffer));
+            let buffers = [0, need - 1, need, need + 1];
+            let steps = buffers.map(|buffer| form.request_into(ID, number, buffer));
             sequence(&places, &steps, emit);
         }
     }
 }
 
-fn acknowledgements(size: Size, emit: Emit) {
+fn acknowledgements(form: Form, size: Size, emit: Emit) {
     let statuses = if size.full() { &[0, 1, 0x21, 0x80, 255][..] } else { &[0, 1] };
     for s in [0, 7, 255] {
         for wait in [IDLE, FIRST, SECOND] {
             let places = [channel(IDS[0], 1, 60, wait), channel(ID, 50, s, wait)];
             for number in numbers(size, s) {
-                let steps = statuses.iter().map(|&status| ack(ID, number, status));
+                let steps = statuses.iter().map(|&status| form.ack(ID, number, status));
                 each_alone(&places, &steps.collect::<Vec<_>>(), emit);
             }
         }
     }
     // Nothing is written, whatever the output holds.
     for wait in [IDLE, FIRST, SECOND] {
-        let steps = [0, 1].map(|status| datagram(ack_input(ID, 7, status), 11));
+        let inputs = [0, 1].map(|status| form.ack_input(ID, 7, status));
+        let steps = form.datagrams(inputs.into(), form.ack_length());
         each_alone(&[channel(ID, 7, 7, wait)], &steps, emit);
     }
 }
 
-fn steps_from_255(emit: Emit) {
+fn steps_from_255(form: Form, emit: Emit) {
     let numbers = [254, 255, 255, 254, 0, 255, 0, 1];
-    sequence(&[channel(ID, 254, 9, IDLE)], &numbers.map(|number| request(ID, number, 11)), emit);
+    sequence(&[channel(ID, 254, 9, IDLE)], &numbers.map(|number| form.request(ID, number)), emit);
     let send = || send(ID, &filler(1), 11);
-    let steps = [send(), ack(ID, 0, 0), ack(ID, 255, 0), send(), ack(ID, 255, 0), ack(ID, 0, 0)];
+    let [first, second] = [255, 0].map(|number| form.ack(ID, number, 0));
+    let steps = [send(), second.clone(), first.clone(), send(), first, second];
     sequence(&[channel(ID, 9, 255, IDLE)], &[&steps[..], &[send()]].concat(), emit);
 }
 
@@ -230,13 +299,9 @@ fn changed(good: &[u8], at: usize, bytes: &[u8]) -> Vec<u8> {
     [&good[..at], bytes, &good[at + bytes.len()..]].concat()
 }
 
-fn datagrams(inputs: Vec<Vec<u8>>, buffer: usize) -> Vec<Step> {
-    inputs.into_iter().map(|input| datagram(input, buffer)).collect()
-}
-
-fn refused_datagrams(emit: Emit) {
+fn refused_datagrams(form: Form, emit: Emit) {
     let places = [channel(ID, 7, 7, FIRST)];
-    for good in [request_input(ID, 7, &filler(2)), ack_input(ID, 7, 0)] {
+    for good in [request_input(ID, 7, &filler(2)), form.ack_input(ID, 7, 0)] {
         let length = good.len();
         let ends = (0..6).chain([length - 1]);
         let mut inputs: Vec<Vec<u8>> = ends.map(|end| good[..end].to_vec()).collect();
@@ -245,59 +310,64 @@ fn refused_datagrams(emit: Emit) {
         inputs.extend([[4, 0x22], [5, good[3]]].map(|unknown| changed(&good, 2, &unknown)));
         inputs.extend([0, 5, length as u8 + 1].map(|total| changed(&good, 5, &[total])));
         inputs.extend(OTHER_SERVICES.map(|other| changed(&good, 2, &other.to_be_bytes())));
-        sequence(&places, &datagrams(inputs, 11), emit);
+        sequence(&places, &form.datagrams(inputs, form.ack_length()), emit);
     }
     // Several things wrong at once: which refusal comes first.
     let mut inputs = vec![vec![5, 0x11, 4, 0x22, 0, 5], vec![6, 0x11, 4, 0x22, 0, 5]];
     inputs.extend([vec![6, 0x10, 4, 0x22, 0, 5], vec![6, 0x10, 2, 6, 0, 5]]);
     inputs.extend(OTHER_SERVICES.map(|other| frame(other, &[])));
-    inputs.extend([request_input(NINTH, 7, &[]), ack_input(NINTH, 7, 0), ack_input(NINTH, 7, 1)]);
-    for buffer in [0, 11] {
-        sequence(&places, &datagrams(inputs.clone(), buffer), emit);
+    inputs.push(request_input(NINTH, 7, &[]));
+    inputs.extend([0, 1].map(|status| form.ack_input(NINTH, 7, status)));
+    for buffer in [0, form.ack_length()] {
+        sequence(&places, &form.datagrams(inputs.clone(), buffer), emit);
     }
-    short_bodies(emit);
 }
 
 /// Bodies up to one byte more than needed, of an open channel and of a closed one; the bytes
 /// that the total length leaves out may be there.
-fn short_bodies(emit: Emit) {
+fn short_bodies(form: Form, emit: Emit) {
+    let output = form.ack_length();
     for id in [ID, NINTH] {
-        for (service, need) in [(REQUEST, 4), (ACKNOWLEDGEMENT, 5)] {
+        for (service, need) in [(REQUEST, 4), (ACKNOWLEDGEMENT, output - 6)] {
             for length in 0..=need + 1 {
                 let body = [4, id, 7, 0, 0, 0];
                 let exact = frame(service, &body[..length]);
                 let longer = [&exact[..], &body[length..]].concat();
-                each_alone(&[channel(ID, 7, 7, FIRST)], &datagrams(vec![exact, longer], 11), emit);
+                let steps = form.datagrams(vec![exact, longer], output);
+                each_alone(&[channel(ID, 7, 7, FIRST)], &steps, emit);
             }
         }
     }
 }
 
 /// What is not looked at: bytes behind the total length, the connection header's length byte and
-/// its last byte, the end of a long acknowledgement. Views of several lengths.
-fn odd_datagrams(emit: Emit) {
+/// its last byte (in KNX's form it is an acknowledgement's status), the end of a long
+/// acknowledgement. Views of several lengths.
+fn odd_datagrams(form: Form, emit: Emit) {
     let places = [channel(ID, 7, 7, FIRST)];
-    for good in [request_input(ID, 7, &filler(2)), ack_input(ID, 7, 0), ack_input(ID, 7, 1)] {
+    let [sent, refused] = [0, 1].map(|status| form.ack_input(ID, 7, status));
+    for good in [request_input(ID, 7, &filler(2)), sent, refused] {
         let mut inputs = vec![[&good[..], &[0xAA]].concat(), [&good[..], &filler(9)].concat()];
         inputs.extend([0, 3, 5, 255].map(|byte| changed(&good, 6, &[byte])));
         inputs.extend([1, 255].map(|byte| changed(&good, 9, &[byte])));
-        each_alone(&places, &datagrams(inputs, 12), emit);
+        each_alone(&places, &form.datagrams(inputs, 12), emit);
     }
     for tail in [&[0][..], &[1], &filler(20)] {
-        let long = frame(ACKNOWLEDGEMENT, &[&[4, ID, 7, 0, 0], tail].concat());
-        sequence(&places, &[datagram(long, 0)], emit);
+        let whole = form.ack_input(ID, 7, 0);
+        let long = frame(ACKNOWLEDGEMENT, &[&whole[6..], tail].concat());
+        sequence(&places, &[form.datagram(long, 0)], emit);
     }
     for cemi in [0, 1, 2, 11, 245, 246, 300] {
         let input = request_input(ID, 7, &filler(cemi));
-        sequence(&places, &[datagram(input.clone(), 20), datagram(input, 20)], emit);
+        sequence(&places, &[form.datagram(input.clone(), 20), form.datagram(input, 20)], emit);
     }
 }
 
 /// All calls on each channel of a full table.
-fn every_place(emit: Emit) {
+fn every_place(form: Form, emit: Emit) {
     let full = full_table();
     for [_, id, r, s, _] in full {
-        let datagrams = [request(id, r, 11), request(id, r, 11), ack(id, s, 0), timeout(id)];
+        let datagrams = [form.request(id, r), form.request(id, r), form.ack(id, s, 0), timeout(id)];
         let ends = [send(id, &filler(1), 11), timeout(id), timeout(id), open(NINTH), open(id)];
         sequence(&full, &[&datagrams[..], &ends].concat(), emit);
         each_alone(&full, &[open(id), close(id), timeout(id), send(id, &[], 10)], emit);
@@ -305,15 +375,16 @@ fn every_place(emit: Emit) {
 }
 
 /// Every call on an id that stands twice; a closed one stands once more.
-fn doubled_ids(emit: Emit) {
+fn doubled_ids(form: Form, emit: Emit) {
     for (first, second) in [(IDLE, FIRST), (FIRST, IDLE), (SECOND, FIRST)] {
         let other = channel(IDS[0], 1, 2, FIRST);
         let places = [other, channel(ID, 7, 9, first), other, FREE, channel(ID, 100, 200, second)];
         let mut steps = vec![open(ID), close(ID), timeout(ID), send(ID, &filler(1), 11)];
-        steps.extend([7, 6, 100, 99].map(|number| request(ID, number, 11)));
-        steps.extend([(9, 0), (9, 1), (200, 0), (200, 1)].map(|(number, s)| ack(ID, number, s)));
+        steps.extend([7, 6, 100, 99].map(|number| form.request(ID, number)));
+        let acks = [(9, 0), (9, 1), (200, 0), (200, 1)];
+        steps.extend(acks.map(|(number, status)| form.ack(ID, number, status)));
         each_alone(&places, &steps, emit);
-        let left = [close(ID), open(ID), request(ID, 100, 11), ack(ID, 200, 0), timeout(ID)];
+        let left = [close(ID), open(ID), form.request(ID, 100), form.ack(ID, 200, 0), timeout(ID)];
         let ends = [send(ID, &[], 10), close(ID), close(ID), open(ID), close(IDS[0]), open(IDS[0])];
         sequence(&places, &[&left[..], &ends].concat(), emit);
         sequence(&places, &[timeout(ID), timeout(ID), timeout(ID), timeout(ID), open(ID)], emit);
@@ -329,19 +400,19 @@ fn full_of_doubled_ids(emit: Emit) {
     }
 }
 
-fn every_id(emit: Emit) {
+fn every_id(form: Form, emit: Emit) {
     for id in 0..=255 {
-        let calls = [open(id), request(id, 0, 11), send(id, &filler(2), 12), ack(id, 0, 0)];
+        let calls = [open(id), form.request(id, 0), send(id, &filler(2), 12), form.ack(id, 0, 0)];
         sequence(&[channel(!id, 9, 9, IDLE)], &[&calls[..], &[close(id)]].concat(), emit);
     }
 }
 
-fn every_expected_number(emit: Emit) {
+fn every_expected_number(form: Form, emit: Emit) {
     for r in 0..=255u8 {
         let numbers = [r.wrapping_sub(2), r.wrapping_add(1), r.wrapping_sub(1), r, r];
-        let steps = numbers.map(|number| request(ID, number, 11));
+        let steps = numbers.map(|number| form.request(ID, number));
         sequence(&[channel(ID, r, 9, IDLE)], &steps, emit);
-        sequence(&[channel(ID, 9, r, IDLE)], &[send(ID, &[], 10), ack(ID, r, 0)], emit);
+        sequence(&[channel(ID, 9, r, IDLE)], &[send(ID, &[], 10), form.ack(ID, r, 0)], emit);
     }
 }
 
@@ -361,23 +432,83 @@ fn long_sends(emit: Emit) {
 
 /// The inputs of calls 3 and 6; the bodies have channel 10 and number 17 where they are long
 /// enough.
-fn all_frames(size: Size, emit: Emit) {
+fn all_frames(form: Form, size: Size, emit: Emit) {
     inputs_as_frames(size, &mut |input| {
-        sequence(&[channel(10, 17, 17, FIRST)], &[datagram(input.to_vec(), 11)], emit);
+        let step = form.datagram(input.to_vec(), form.ack_length());
+        sequence(&[channel(10, 17, 17, FIRST)], &[step], emit);
     });
+}
+
+// Both forms on one table
+
+/// Delivered in one form and a duplicate in the other, past 255, then the same with too small an
+/// output between; outputs around what the two forms need.
+fn mixed_requests(emit: Emit) {
+    let places = [channel(IDS[0], 1, 2, FIRST), channel(ID, 254, 9, IDLE)];
+    for [one, other] in [[Of01, Knx], [Knx, Of01]] {
+        let both = |number| [one.request(ID, number), other.request(ID, number)];
+        sequence(&places, &[both(254), both(255), both(0)].concat(), emit);
+    }
+    let steps = [(Of01, 10), (Knx, 10), (Of01, 10), (Knx, 9), (Of01, 11), (Knx, 11)];
+    sequence(&places, &steps.map(|(form, buffer)| form.request_into(ID, 254, buffer)), emit);
+    for form in FORMS {
+        for number in [254, 253, 0] {
+            let steps = [9, 10, 11].map(|buffer| form.request_into(ID, number, buffer));
+            each_alone(&places, &steps, emit);
+        }
+    }
+}
+
+/// Acknowledgements of each form put to both calls: one reads the status where the other has its
+/// zero, and one refuses what is long enough for the other.
+fn mixed_acknowledgements(size: Size, emit: Emit) {
+    let send = || send(ID, &filler(2), 12);
+    let body = |ends: &[u8]| frame(ACKNOWLEDGEMENT, &[&[4, ID, 7], ends].concat());
+    let [short, late, early] = [body(&[0]), body(&[0, 0x29]), body(&[0x29, 0])];
+    for steps in [
+        [send(), Of01.datagram(short.clone(), 0), Knx.datagram(short, 0), send()],
+        [send(), Of01.datagram(late.clone(), 0), Knx.datagram(late, 0), send()],
+        [send(), Knx.datagram(early.clone(), 0), Of01.datagram(early.clone(), 0), send()],
+        [send(), Knx.datagram(early.clone(), 0), Knx.datagram(early, 0), Of01.ack(ID, 7, 0)],
+        [send(), Of01.ack(ID, 7, 1), Knx.ack(ID, 7, 1), Knx.ack(ID, 7, 0)],
+        [send(), Knx.ack(ID, 7, 1), Of01.ack(ID, 7, 1), open(ID)],
+    ] {
+        sequence(&[channel(IDS[0], 1, 7, FIRST), channel(ID, 3, 7, IDLE)], &steps, emit);
+    }
+    if size.full() {
+        every_status(emit);
+    }
+}
+
+/// Every status at either place, with some bytes at the other, and alone.
+fn every_status(emit: Emit) {
+    for status in 0..=255 {
+        let mut ends = vec![vec![status]];
+        for other in [0, 1, 0x29, 255] {
+            ends.extend([vec![status, other], vec![other, status]]);
+        }
+        for wait in [IDLE, FIRST, SECOND] {
+            for form in FORMS {
+                let inputs = ends.iter().map(|ends| [&[4, ID, 7], &ends[..]].concat());
+                let inputs = inputs.map(|body| frame(ACKNOWLEDGEMENT, &body)).collect();
+                each_alone(&[channel(ID, 3, 7, wait)], &form.datagrams(inputs, 0), emit);
+            }
+        }
+    }
 }
 
 // Random sequences
 
 /// Up to sixty calls, most of them on a few ids; the generator's own table tells what to aim at.
-pub fn random_sequence(rng: &mut Rng, emit: Emit) {
+/// The datagrams are in 01's form, or each in either one.
+pub fn random_sequence(rng: &mut Rng, mixed: bool, emit: Emit) {
     let ids = random_ids(rng);
     let known = rng.between(3, 5);
     let mut table = Table::default();
     let mut step = set(&random_places(rng, &ids, known));
     for _ in 0..rng.between(5, 60) {
         perform(&mut table, &step, emit);
-        step = random_step(rng, &ids, known, &table);
+        step = random_step(rng, &ids, known, mixed, &table);
     }
     perform(&mut table, &step, emit);
 }
@@ -422,7 +553,7 @@ fn random_place(rng: &mut Rng, ids: &[u8]) -> Place {
 }
 
 /// A call on a known id or on the stray one; a closed channel is mostly opened.
-fn random_step(rng: &mut Rng, ids: &[u8; 9], known: usize, table: &Table) -> Step {
+fn random_step(rng: &mut Rng, ids: &[u8; 9], known: usize, mixed: bool, table: &Table) -> Step {
     let id = if rng.below(12) == 0 { ids[8] } else { ids[rng.below(known)] };
     let (r, s) = match table.numbers(id) {
         None if rng.below(4) > 0 => return open(id),
@@ -434,14 +565,23 @@ fn random_step(rng: &mut Rng, ids: &[u8; 9], known: usize, table: &Table) -> Ste
         2..=4 => timeout(id),
         5..=9 => random_send(rng, id),
         10..=15 => {
-            let input = random_ack(rng, id, s);
-            random_datagram(rng, input)
+            let form = random_form(rng, mixed);
+            // Now and then in the other call's form.
+            let laid_out = if mixed && rng.below(6) == 0 { random_form(rng, mixed) } else { form };
+            let input = random_ack(rng, laid_out, id, s);
+            random_datagram(rng, form, input)
         }
         _ => {
+            let form = random_form(rng, mixed);
             let input = random_request(rng, id, r);
-            random_datagram(rng, input)
+            random_datagram(rng, form, input)
         }
     }
+}
+
+/// Draws a number only where the forms are mixed.
+fn random_form(rng: &mut Rng, mixed: bool) -> Form {
+    if mixed { FORMS[rng.below(2)] } else { Of01 }
 }
 
 fn random_cemi(rng: &mut Rng) -> Vec<u8> {
@@ -472,14 +612,14 @@ fn random_request(rng: &mut Rng, id: u8, r: u8) -> Vec<u8> {
     request_input(id, number, &random_cemi(rng))
 }
 
-fn random_ack(rng: &mut Rng, id: u8, s: u8) -> Vec<u8> {
+fn random_ack(rng: &mut Rng, form: Form, id: u8, s: u8) -> Vec<u8> {
     let number = if rng.below(3) == 0 { number_near(rng, s) } else { s };
     let status = [0, 0, 0, 0, 1, rng.byte()][rng.below(6)];
-    ack_input(id, number, status)
+    form.ack_input(id, number, status)
 }
 
 /// Mostly a good datagram and an output that holds an acknowledgement.
-fn random_datagram(rng: &mut Rng, mut input: Vec<u8>) -> Step {
+fn random_datagram(rng: &mut Rng, form: Form, mut input: Vec<u8>) -> Step {
     match rng.below(16) {
         0 | 1 => damage(rng, &mut input),
         2 => input[2..4].copy_from_slice(&rng.service().to_be_bytes()),
@@ -487,6 +627,7 @@ fn random_datagram(rng: &mut Rng, mut input: Vec<u8>) -> Step {
         4 => input[9] = rng.byte(),
         _ => {}
     }
-    let buffer = if rng.below(3) == 0 { rng.below(21) } else { rng.between(11, 20) };
-    datagram(input, buffer)
+    let enough = form.ack_length();
+    let buffer = if rng.below(3) == 0 { rng.below(21) } else { rng.between(enough, 20) };
+    form.datagram(input, buffer)
 }

@@ -1,10 +1,9 @@
 // Document 01's tunnel table, which the Rust does not have, written for the comparison alone: its
-// rules once more, in 01's order, one search for all. It reads the datagrams by itself.
-
-use std::ops::RangeInclusive;
+// rules once more, in 01's order, one search for all. It reads the datagrams by itself, with their
+// acknowledgements in 01's form or in KNX's own.
 
 /// The calls on the table.
-pub const CALLS: RangeInclusive<u8> = 46..=51;
+pub const CALLS: [u8; 7] = [46, 47, 48, 49, 50, 51, 76];
 
 const TOO_SMALL: u8 = 1;
 const INVALID_FRAME: u8 = 2;
@@ -22,6 +21,24 @@ const REQUEST: u16 = 0x0420;
 const ACKNOWLEDGEMENT: u16 = 0x0421;
 const SERVICES: [u16; 8] =
     [0x0205, 0x0206, 0x0207, 0x0208, 0x0209, 0x020A, REQUEST, ACKNOWLEDGEMENT];
+
+/// The two forms of an acknowledgement: a whole connection header and the status behind it, or, by
+/// KNX's own documents, the status for the header's fourth byte.
+#[derive(Clone, Copy)]
+enum Form {
+    Of01,
+    Knx,
+}
+
+impl Form {
+    /// Where the status stands in the body, whose last byte it is.
+    fn status_at(self) -> usize {
+        match self {
+            Form::Of01 => 4,
+            Form::Knx => 3,
+        }
+    }
+}
 
 /// Whether a channel waits for an acknowledgement, in the order of the numbers in a record.
 #[derive(Clone, Copy, PartialEq)]
@@ -129,14 +146,20 @@ impl Table {
         }
     }
 
+    /// In 01's form.
     pub fn datagram(&mut self, input: &[u8], output: &mut [u8]) -> Result<Answer, u8> {
+        self.datagram_in(Form::Of01, input, output)
+    }
+
+    fn datagram_in(&mut self, form: Form, input: &[u8], output: &mut [u8]) -> Result<Answer, u8> {
         let (service, body) = read_frame(input)?;
         match (service, body) {
             (REQUEST, [_, id, number, _, cemi @ ..]) => {
-                self.request(*id, *number, cemi.len(), output)
+                self.request(form, *id, *number, cemi.len(), output)
             }
-            (ACKNOWLEDGEMENT, [_, id, number, _, status, ..]) => {
-                self.acknowledgement(*id, *number, *status)
+            (ACKNOWLEDGEMENT, [_, id, number, ..]) => {
+                let status = *body.get(form.status_at()).ok_or(TOO_SMALL)?;
+                self.acknowledgement(*id, *number, status)
             }
             (REQUEST | ACKNOWLEDGEMENT, _) => Err(TOO_SMALL),
             _ => Err(NOT_FOR_TUNNELS),
@@ -145,6 +168,7 @@ impl Table {
 
     fn request(
         &mut self,
+        form: Form,
         id: u8,
         number: u8,
         cemi: usize,
@@ -155,10 +179,12 @@ impl Table {
         if number != channel.r && number != before {
             return Ok(only(Said::OutOfOrder));
         }
-        if output.len() < 11 {
+        // Status 0, and in 01's form the zero that ends the header.
+        let body = &[4, id, number, 0, 0][..=form.status_at()];
+        if output.len() < 6 + body.len() {
             return Err(TOO_SMALL);
         }
-        let written = write_frame(ACKNOWLEDGEMENT, &[4, id, number, 0, 0], output);
+        let written = write_frame(ACKNOWLEDGEMENT, body, output);
         if number == before {
             return Ok(Answer { written, ..only(Said::Duplicate) });
         }
@@ -234,6 +260,7 @@ impl Table {
             (49, &[id]) => self.timeout(id),
             (50, [id, cemi @ ..]) => self.send(*id, cemi, buffer),
             (51, input) => self.datagram(input, buffer),
+            (76, input) => self.datagram_in(Form::Knx, input, buffer),
             _ => return None,
         };
         let (number, Answer { said, view, written }) = match answer {

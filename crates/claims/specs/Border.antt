@@ -12,6 +12,7 @@ use Rattle.tunnel_table.specs.declared.places.Hold.the-variants.{Free, Held}
 use Rattle.tunnel_table.specs.declared.places.Place.{Place}
 use Rattle.tunnel_image.specs.Image as Image
 use Rattle.knx.specs.Reading as KnxReading
+use Rattle.knx.specs.Channel as KnxChannel
 use Rattle.knx.specs.CemiLData as CemiLData
 use Rattle.additional_info.specs.Area.{recordsIn, behind}
 use Rattle.knx.specs.Building as Building
@@ -42,6 +43,16 @@ pub record Reads : Type 0 where
         crd = 0x04 ∷ 0x05 ∷ 0x11 ∷ 0x0A ∷ [];
         number = 0;
       })
+  -- in KNX's form a refusal has two bytes
+  pub connect-refused : KnxReading.ConnectResponseStandardPromise (0x15 ∷ 0x24 ∷ [])
+      (record { channel = 0x15; status = 0x24; «structure_length» = 0; «host_protocol» = 0; address = replicate 4 0; port = 0; crd = replicate 4 0; number = 0 })
+  pub own-address : KnxReading.OwnAddressPromise
+      (record { channel = 0x15; status = 0; «structure_length» = 8; «host_protocol» = 1; address = 192 ∷ 168 ∷ 1 ∷ 2 ∷ []; port = 3671; crd = 0x04 ∷ 0x05 ∷ 0x11 ∷ 0x0A ∷ []; number = 0 })
+      0x110A
+  pub status : KnxChannel.StatusPromise (0x15 ∷ 0x21 ∷ 0xEE ∷ []) (record { channel = 0x15; status = 0x21; number = 0 })
+  pub status-short : KnxChannel.StatusPromise (0x15 ∷ []) (record { channel = 0; status = 0; number = 1 })
+  pub disconnect-request : KnxChannel.DisconnectRequestPromise (0x15 ∷ 0x00 ∷ endpointBytes)
+      (record { channel = 0x15; «structure_length» = 8; «host_protocol» = 1; address = 192 ∷ 168 ∷ 1 ∷ 2 ∷ []; port = 3671; number = 0 })
   -- a group write of 2A behind two bytes of additional information
   pub cemi-ldata : CemiLData.CemiLDataPromise stamped
       (record {
@@ -124,6 +135,11 @@ reads = record {
   frame = refl;
   hpai = refl;
   connect-response = (refl, record { address-4 = refl; crd-4 = refl });
+  connect-refused = (refl, record { address-4 = refl; crd-4 = refl });
+  own-address = refl;
+  status = refl;
+  status-short = refl;
+  disconnect-request = refl;
   cemi-ldata = refl;
   cemi-numbered = refl;
   cemi-switch = refl;
@@ -187,6 +203,9 @@ pub record Builds : Type 0 where
   pub cemi-code : KnxInfo.BuildPromise 0x13 (0x99 ∷ []) [] [] (record { count = 0; number = 6 }) []
   pub tunneling-ack : Building.TunnelingAckPromise 0x15 0x07 0x29 (nines ++ nines) (wrote 11)
       (0x06 ∷ 0x10 ∷ 0x04 ∷ 0x21 ∷ 0x00 ∷ 0x0B ∷ 0x04 ∷ 0x15 ∷ 0x07 ∷ 0x00 ∷ 0x29 ∷ replicate 7 9)
+  pub tunneling-ack-standard : Building.TunnelingAckStandardPromise 0x15 0x07 0x29 (nines ++ nines) (wrote 10)
+      (0x06 ∷ 0x10 ∷ 0x04 ∷ 0x21 ∷ 0x00 ∷ 0x0A ∷ 0x04 ∷ 0x15 ∷ 0x07 ∷ 0x29 ∷ replicate 8 9)
+  pub disconnect-response : Building.DisconnectResponseBuildPromise 0x15 0x21 nines (wrote 8) (0x06 ∷ 0x10 ∷ 0x02 ∷ 0x0A ∷ 0x00 ∷ 0x08 ∷ 0x15 ∷ 0x21 ∷ 9 ∷ [])
 
 pub builds : Builds
 unfolding tpciOf recordsIn behind
@@ -202,6 +221,8 @@ builds = record {
   cemi-build = record { answer = Bytes 8; keeps = (refl, refl); tells = refl };
   cemi-code = record { answer = Refused InvalidMessageCode; keeps = (refl, refl); tells = refl };
   tunneling-ack = record { answer = Bytes 11; keeps = (refl, refl); tells = refl };
+  tunneling-ack-standard = record { answer = Bytes 10; keeps = (refl, refl); tells = refl };
+  disconnect-response = record { answer = Bytes 8; keeps = (refl, refl); tells = refl };
 }
 
 -- ---- the table's image
@@ -251,6 +272,17 @@ pub record Tables : Type 0 where
       (imageOf (place 0x15 7 4 0) (place 0x16 8 4 2))
       []
   pub ignored : Called.DatagramPromise two (0x06 ∷ 0x10 ∷ 0x04 ∷ 0x21 ∷ 0x00 ∷ 0x0B ∷ 0x04 ∷ 0x15 ∷ 0x07 ∷ 0x00 ∷ 0x00 ∷ []) [] (said 7) two []
+  -- in KNX's form ten bytes, both ways; status 0x29 acts as a timeout
+  pub delivers-standard : Called.DatagramStandardPromise two (0x06 ∷ 0x10 ∷ 0x04 ∷ 0x20 ∷ 0x00 ∷ 0x0C ∷ 0x04 ∷ 0x15 ∷ 0x07 ∷ 0x00 ∷ 0x29 ∷ 0x01 ∷ 0xEE ∷ []) (replicate 10 9)
+      (record { start = 10; end = 12; written = 10; said = 3; number = 0 })
+      (imageOf (place 0x15 8 3 1) (place 0x16 8 4 2))
+      (0x06 ∷ 0x10 ∷ 0x04 ∷ 0x21 ∷ 0x00 ∷ 0x0A ∷ 0x04 ∷ 0x15 ∷ 0x07 ∷ 0x00 ∷ [])
+  pub sent-standard : Called.DatagramStandardPromise two (0x06 ∷ 0x10 ∷ 0x04 ∷ 0x21 ∷ 0x00 ∷ 0x0A ∷ 0x04 ∷ 0x15 ∷ 0x03 ∷ 0x00 ∷ []) [] (said 6)
+      (imageOf (place 0x15 7 4 0) (place 0x16 8 4 2))
+      []
+  pub repeats-standard : Called.DatagramStandardPromise two (0x06 ∷ 0x10 ∷ 0x04 ∷ 0x21 ∷ 0x00 ∷ 0x0A ∷ 0x04 ∷ 0x15 ∷ 0x03 ∷ 0x29 ∷ []) [] (said 1)
+      (imageOf (place 0x15 7 3 2) (place 0x16 8 4 2))
+      []
   -- an image of 39 bytes is 1
   pub short : Called.OpenPromise (replicate 39 0) 0x15 (record { start = 0; end = 0; written = 0; said = 0; number = 1 }) (replicate 39 0)
 
@@ -267,5 +299,8 @@ tables = record {
   delivers = refl;
   sent = refl;
   ignored = refl;
+  delivers-standard = refl;
+  sent-standard = refl;
+  repeats-standard = refl;
   short = refl;
 }

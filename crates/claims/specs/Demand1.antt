@@ -66,18 +66,23 @@ use Rattle.connect.specs.declared.request.ConnectRequest.{ConnectRequest}
 use Rattle.connect.specs.declared.response.ConnectResponseAnswer.{ConnectResponseAnswer}
 use Rattle.connect.specs.declared.channel.ConnectionStateRequest.{ConnectionStateRequest}
 use Rattle.connect.specs.declared.channel.DisconnectRequest.{DisconnectRequest}
+use Rattle.connect.specs.declared.channel.DisconnectRequestAnswer.{DisconnectRequestAnswer}
+use Rattle.connect.specs.declared.channel.DisconnectResponse.{DisconnectResponse}
 use Rattle.connect.specs.declared.channel.ConnectionStateAnswer.{ConnectionStateAnswer}
 use Rattle.connect.specs.declared.channel.DisconnectAnswer.{DisconnectAnswer}
 use Rattle.tunnelling.specs.Connection as Connection
 use Rattle.tunnelling.specs.Request as TunnelingRequest
 use Rattle.tunnelling.specs.Ack as TunnelingAck
+use Rattle.tunnelling.specs.AckForm as AckForm
+use Rattle.tunnelling.specs.declared.form.Form.{Form}
+use Rattle.tunnelling.specs.declared.form.Form.the-variants as Form
 use Rattle.tunnelling.specs.declared.connection.ConnectionHeader.{ConnectionHeader}
 use Rattle.tunnelling.specs.declared.connection.ConnectionHeaderAnswer.{ConnectionHeaderAnswer}
 use Rattle.tunnelling.specs.declared.request.TunnelingRequest.{TunnelingRequest}
 use Rattle.tunnelling.specs.declared.request.TunnelingRequestAnswer.{TunnelingRequestAnswer}
 use Rattle.tunnelling.specs.declared.ack.TunnelingAck.{TunnelingAck}
 use Rattle.tunnelling.specs.declared.ack.TunnelingAckAnswer.{TunnelingAckAnswer}
-use Rattle.tunnel_model.specs.Calls.{Call, Open, Close, Timeout, Send, Datagram, outOf}
+use Rattle.tunnel_model.specs.Calls.{Call, Open, Close, Timeout, Send, Datagram, DatagramIn, outOf}
 use mathlib.Core.Bool.{Bool}
 use Rattle.frame.specs.Judging as Judging
 use Rattle.inspection.specs.Lines as InspectionLines
@@ -108,6 +113,7 @@ use Rattle.tunnel_model.specs.Table.{emptyOf}
 use Rattle.tunnel_table.specs.Places.{kind}
 use Rattle.tunnel_image.specs.Image as Image
 use Rattle.knx.specs.Reading as KnxReading
+use Rattle.knx.specs.Channel as KnxChannel
 use Rattle.knx.specs.CemiLData as CemiLData
 use Rattle.knx.specs.Building as Building
 use Rattle.knx.specs.BuildingLaws.{tells-refusing}
@@ -117,6 +123,8 @@ use Rattle.knx.specs.CalledLaws as CalledLaws
 use Rattle.knx.specs.declared.reading.KnxFrame.{KnxFrame}
 use Rattle.knx.specs.declared.reading.KnxHpai.{KnxHpai}
 use Rattle.knx.specs.declared.reading.KnxConnectResponse.{KnxConnectResponse}
+use Rattle.knx.specs.declared.channel.KnxStatus.{KnxStatus}
+use Rattle.knx.specs.declared.channel.KnxDisconnectRequest.{KnxDisconnectRequest}
 use Rattle.knx.specs.declared.cemi_ldata.KnxLData.{KnxLData}
 use Rattle.knx.specs.declared.info.KnxPart.{KnxPart}
 use Rattle.knx.specs.declared.info.KnxAdditionalInfo.{KnxAdditionalInfo}
@@ -342,6 +350,11 @@ connect-request-build q b = writes-refusing (ConnectRequest.buildChecks (length 
 pub connect-response-parse : (s : List ℕ) (r : ConnectResponseAnswer) → ConnectResponse.ParsePromise s r → Refusing (ConnectResponse.told r)
 connect-response-parse s r p = judged-refusing (ConnectResponse.checks (length s) (get ConnectResponse.fields 0 s)) (done (get ConnectResponse.fields 0 s)) (ConnectResponse.told r) refl (p .0)
 
+-- connect::ConnectResponse::parse_standard
+pub connect-response-parse-standard : (s : List ℕ) (r : ConnectResponseAnswer) → ConnectResponse.ParseStandardPromise s r → Refusing (ConnectResponse.told r)
+connect-response-parse-standard s r p =
+    judged-refusing (ConnectResponse.knxChecks (length s) (get ConnectResponse.fields 0 s)) (done (ConnectResponse.knxValues (get ConnectResponse.fields 0 s))) (ConnectResponse.told r) refl (p .0)
+
 -- both requests of 16 bytes
 channel-request : (s : ServiceType) (channel : ℕ) (h : Hpai) (b : List ℕ) (r : Written) (after : List ℕ)
     → Channel.RequestPromise s channel h b r after → Refusing (Writing.told r) × Leaves (Writing.told r) b after
@@ -354,6 +367,16 @@ state-request-build q = channel-request ServiceType.ConnectionstateRequest (q .�
 -- connect::DisconnectRequest::build
 pub disconnect-request-build : (q : DisconnectRequest) (b : List ℕ) (r : Written) (after : List ℕ) → Channel.DisconnectBuildPromise q b r after → Refusing (Writing.told r) × Leaves (Writing.told r) b after
 disconnect-request-build q = channel-request ServiceType.DisconnectRequest (q .«channel_id») (q .«control_endpoint»)
+
+-- connect::DisconnectRequest::parse
+pub disconnect-request-parse : (s : List ℕ) (r : DisconnectRequestAnswer) → Channel.DisconnectRequestParsePromise s r → Refusing (Channel.toldRequest r)
+disconnect-request-parse s r =
+    let vs = get Channel.requestFields 0 s in
+    judged-refusing (checksOf Channel.requestFormat (length s) vs) (done (Channel.requestFormat .valuesIn vs)) (Channel.toldRequest r) refl
+
+-- connect::DisconnectResponse::build
+pub disconnect-response-build : (q : DisconnectResponse) (b : List ℕ) (r : Written) (after : List ℕ) → Channel.DisconnectResponseBuildPromise q b r after → Refusing (Writing.told r) × Leaves (Writing.told r) b after
+disconnect-response-build q b = writes-refusing (Channel.responseChecks (length b)) (Write.frame ServiceType.DisconnectResponse (Channel.statusLayout (q .«channel_id») (q .status))) b
 
 -- connect::ConnectionStateResponse::parse
 pub state-response-parse : (s : List ℕ) (r : ConnectionStateAnswer) → Channel.StateParsePromise s r → Refusing (Channel.toldState r)
@@ -389,19 +412,33 @@ tunnel-request-cemi s r = judged-refusing (Connection.checks (length s)) (viewed
 pub tunnel-request-cemi-part : (s r : List ℕ) (e : Refusal) → verdict (Connection.checks (length s)) ≡ Refuse e → TunnelingRequest.CemiPartPromise s r → r ≡ []
 tunnel-request-cemi-part s r e v q = q ∙ shown-refused (Connection.checks (length s)) (viewed 4 (length s)) e s v
 
+-- tunnelling::TunnelingAck::build_in
+pub ack-build-in : (f : Form) (a : TunnelingAck) (b : List ℕ) (r : Written) (after : List ℕ) → AckForm.BuildInPromise f a b r after → Refusing (Writing.told r) × Leaves (Writing.told r) b after
+ack-build-in f a b = writes-refusing (AckForm.buildChecks (AckForm.formBy f) (length b)) (Write.frame ServiceType.TunnellingAck (AckForm.layout (AckForm.formBy f) a)) b
+
 -- tunnelling::TunnelingAck::build
 pub ack-build : (a : TunnelingAck) (b : List ℕ) (r : Written) (after : List ℕ) → TunnelingAck.BuildPromise a b r after → Refusing (Writing.told r) × Leaves (Writing.told r) b after
-ack-build a b = writes-refusing (TunnelingAck.buildChecks (length b)) (Write.frame ServiceType.TunnellingAck (TunnelingAck.layout a)) b
+ack-build = ack-build-in Form.Crate
+
+-- tunnelling::TunnelingAck::parse_in
+pub ack-parse-in : (f : Form) (s : List ℕ) (r : TunnelingAckAnswer) → AckForm.ParseInPromise f s r → Refusing (TunnelingAck.told r)
+ack-parse-in f s r =
+    let F = AckForm.formBy f in
+    judged-refusing (AckForm.checks F (length s)) (done (AckForm.valuesIn F (get (F .fields) 0 s))) (TunnelingAck.told r) refl
 
 -- tunnelling::TunnelingAck::parse
 pub ack-parse : (s : List ℕ) (r : TunnelingAckAnswer) → TunnelingAck.ParsePromise s r → Refusing (TunnelingAck.told r)
-ack-parse s r = judged-refusing (TunnelingAck.checks (length s)) (done (TunnelingAck.valuesIn (get TunnelingAck.fields 0 s))) (TunnelingAck.told r) refl
+ack-parse = ack-parse-in Form.Crate
 
 -- ---- datagram
 
 -- tunnel_datagram::hear
 pub datagram-hear : (s : List ℕ) (r : Heard) → Hearing.HearPromise s r → Refusing (Hearing.told r)
 datagram-hear s r p = HearingLaws.heard-refusing r
+
+-- tunnel_datagram::hear_in
+pub datagram-hear-in : (f : Form) (s : List ℕ) (r : Heard) → Hearing.HearInPromise f s r → Refusing (Hearing.told r)
+datagram-hear-in f s r p = HearingLaws.heard-refusing r
 
 -- ---- tunnel: a refusal is 11, says nothing and leaves the tunnel
 
@@ -434,6 +471,7 @@ inspection-ending n cut out = writes-refusing (room (length (InspectionLines.end
 -- tunnel_table::Table::timeout
 -- tunnel_table::Table::send
 -- tunnel_table::Table::datagram
+-- tunnel_table::Table::datagram_in
 pub table-calls : (t : Table) (c : Call) (r : Called) (after : List ℕ) → CallPromise t c r after → (r .number ≡ 0 → ⊥)
     → Zeros (Table.told r) × (after ≡ outOf c) × (r .table ≡ t)
 table-calls = Compiled.call-refusing
@@ -442,6 +480,11 @@ table-calls = Compiled.call-refusing
 pub table-heard : (t : Table) (h : Heard) (out : List ℕ) (r : Called) (after : List ℕ) → Table.HeardPromise t h out r after → (r .number ≡ 0 → ⊥)
     → Zeros (Table.told r) × (after ≡ out) × (r .table ≡ t)
 table-heard = Compiled.heard-refusing
+
+-- tunnel_table::Table::heard_in
+pub table-heard-in : (f : Form) (t : Table) (h : Heard) (out : List ℕ) (r : Called) (after : List ℕ) → Table.HeardInPromise f t h out r after → (r .number ≡ 0 → ⊥)
+    → Zeros (Table.told r) × (after ≡ out) × (r .table ≡ t)
+table-heard-in = Compiled.heard-in-refusing
 
 -- ---- borrowed: what is refused by its parse borrows nothing; a record that is refused, by its answer or by the checks that are repeated, hands out nothing, and its view has the number
 
@@ -531,6 +574,19 @@ knx-hpai-parse s r = hpai-parse s (KnxReading.hpaiAnswer r)
 pub knx-connect-response : (s : List ℕ) (r : KnxConnectResponse) → KnxReading.ConnectResponsePromise s r → Refusing (ConnectResponse.told (KnxReading.responseAnswer r))
 knx-connect-response s r = connect-response-parse s (KnxReading.responseAnswer r)
 
+-- knx::knx_connect_response_standard
+pub knx-connect-response-standard : (s : List ℕ) (r : KnxConnectResponse) → KnxReading.ConnectResponseStandardPromise s r → Refusing (ConnectResponse.told (KnxReading.responseAnswer r))
+knx-connect-response-standard s r = connect-response-parse-standard s (KnxReading.responseAnswer r)
+
+-- knx::knx_connectionstate_response
+-- knx::knx_disconnect_response
+pub knx-status : (s : List ℕ) (r : KnxStatus) → KnxChannel.StatusPromise s r → Refusing (KnxChannel.told r)
+knx-status s r = judged-refusing (checksOf Channel.statusFormat (length s) (get Channel.statusFields 0 s)) (done (get Channel.statusFields 0 s)) (KnxChannel.told r) refl
+
+-- knx::knx_disconnect_request_parse
+pub knx-disconnect-request-parse : (s : List ℕ) (r : KnxDisconnectRequest) → KnxChannel.DisconnectRequestPromise s r → Refusing (Channel.toldRequest (KnxChannel.requestAnswer r))
+knx-disconnect-request-parse s r = disconnect-request-parse s (KnxChannel.requestAnswer r)
+
 -- knx::knx_cemi_ldata
 pub knx-cemi-ldata : (s : List ℕ) (r : KnxLData) → CemiLData.CemiLDataPromise s r → Refusing (CemiLData.told r)
 knx-cemi-ldata s r = judged-refusing (CemiLData.checks s) (CemiLData.ldataIn s) (CemiLData.told r) refl
@@ -600,11 +656,25 @@ knx-tunneling-request channel sequence cemi b =
     let q = Building.requestOf channel sequence in
     tells-refusing (TunnelingRequest.BuildPromise q cemi b) b (tunnel-request-build q cemi b)
 
+-- in either form
+knx-tunneling-ack-in : (f : Form) (channel sequence status : ℕ) (b : List ℕ) (r : KnxWritten) (after : List ℕ) → Building.TunnelingAckInPromise f channel sequence status b r after → ToldRefuses b r after
+knx-tunneling-ack-in f channel sequence status b =
+    let q = Building.ackOf channel sequence status in
+    tells-refusing (AckForm.BuildInPromise f q b) b (ack-build-in f q b)
+
 -- knx::knx_tunneling_ack
 pub knx-tunneling-ack : (channel sequence status : ℕ) (b : List ℕ) (r : KnxWritten) (after : List ℕ) → Building.TunnelingAckPromise channel sequence status b r after → ToldRefuses b r after
-knx-tunneling-ack channel sequence status b =
-    let q = Building.ackOf channel sequence status in
-    tells-refusing (TunnelingAck.BuildPromise q b) b (ack-build q b)
+knx-tunneling-ack = knx-tunneling-ack-in Form.Crate
+
+-- knx::knx_tunneling_ack_standard
+pub knx-tunneling-ack-standard : (channel sequence status : ℕ) (b : List ℕ) (r : KnxWritten) (after : List ℕ) → Building.TunnelingAckStandardPromise channel sequence status b r after → ToldRefuses b r after
+knx-tunneling-ack-standard = knx-tunneling-ack-in Form.Standard
+
+-- knx::knx_disconnect_response_build
+pub knx-disconnect-response-build : (channel status : ℕ) (b : List ℕ) (r : KnxWritten) (after : List ℕ) → Building.DisconnectResponseBuildPromise channel status b r after → ToldRefuses b r after
+knx-disconnect-response-build channel status b =
+    let q = Building.responseOf channel status in
+    tells-refusing (Channel.DisconnectResponseBuildPromise q b) b (disconnect-response-build q b)
 
 -- knx::knx_additional_info_append
 pub knx-info-append : (s : List ℕ) (code : ℕ) (d b : List ℕ) (r : KnxWritten) (after : List ℕ) → KnxInfo.AppendPromise s code d b r after → ToldRefuses b r after
@@ -654,6 +724,10 @@ knx-table-send id cemi before image = knx-table-calls image (Send id cemi before
 -- knx::knx_table_datagram
 pub knx-table-datagram : (bytes before : List ℕ) → LeavesBoth before (λ image. Called.DatagramPromise image bytes before)
 knx-table-datagram bytes before image = knx-table-calls image (Datagram bytes before)
+
+-- knx::knx_table_datagram_standard
+pub knx-table-datagram-standard : (bytes before : List ℕ) → LeavesBoth before (λ image. Called.DatagramStandardPromise image bytes before)
+knx-table-datagram-standard bytes before image = knx-table-calls image (DatagramIn Form.Standard bytes before)
 
 -- ---- the other public functions have no refusal: each answers on every input
 
@@ -724,9 +798,11 @@ knx-table-datagram bytes before image = knx-table-calls image (Datagram bytes be
 -- connect::ConnectionRequestInfo::tunnel_link_layer
 -- connect::ConnectRequest::new
 -- connect::ConnectResponse::is_ok
+-- connect::ConnectResponse::individual_address
 -- connect::ConnectionStateRequest::new
 -- connect::ConnectionStateResponse::is_ok
 -- connect::DisconnectRequest::new
+-- connect::DisconnectResponse::new
 -- connect::DisconnectResponse::is_ok
 -- tunnelling::ConnectionHeader::new
 -- tunnelling::TunnelingRequest::new
@@ -750,6 +826,7 @@ knx-table-datagram bytes before image = knx-table-calls image (Datagram bytes be
 -- inspection::to_front
 -- inspect_io::run
 -- tunnel_image::unpack
+-- knx::knx_own_address
 -- digits::places
 -- digits::put_digits
 -- digits::hex_digit

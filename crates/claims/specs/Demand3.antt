@@ -1,5 +1,6 @@
 -- Demand 3, of the compiled table: tunnels in one table do not disturb each other. Calls carry raw datagrams and whole lent outputs; whose call it is, is computed from the bytes; a trace has number, what is said, count, view, the whole output, and what is left of the channel.
 use Prim.Native.Nat.{ℕ, _+_, _≤_}
+use native.Mathlib.Omega.{arith}
 use mathlib.Core.Path.{_≡_, refl, sym, ap, subst, _∙_}
 use mathlib.Core.List.{List, []}
 use mathlib.Core.Option.{none, some}
@@ -12,6 +13,7 @@ use Rattle.frame.specs.Frame as Frame
 use Rattle.frame.specs.declared.frame.FrameFields.{FrameFields}
 use Rattle.frame.specs.declared.frame.FrameAnswer.the-variants as FrameAnswer
 use Rattle.tunnelling.specs.Request as TunnelingRequest
+use Rattle.tunnelling.specs.declared.form.Form.the-variants.{Crate}
 use Rattle.tunnelling.specs.declared.request.TunnelingRequest.{TunnelingRequest}
 use Rattle.tunnelling.specs.declared.request.TunnelingRequestAnswer.the-variants as TunnelingRequestAnswer
 use Rattle.tunnel.specs.declared.rules.Tunnel.{Tunnel}
@@ -148,12 +150,12 @@ module _ (image start : List ℕ) (w : KnxWritten) (emptied : Called.EmptyPromis
 pub send-heard : (t : Tunnel) (b : ℕ) (cemi out : List ℕ) → lone t (Send b cemi out) .0 .0 .number ≡ 0
     → (heardBy01 (lone t (Send b cemi out) .0 .1) ≡ Request b (t .s) (cemiStart + length cemi))
     × (partOf (lone t (Send b cemi out) .0 .1) cemiStart (cemiStart + length cemi) ≡ cemi)
-send-heard = Exchange.send-heard
+send-heard = Exchange.send-heard Crate
 
 -- an acknowledgement of eleven bytes that a request brought about: its channel, its number, and status 0
 pub ack-heard : (t : Tunnel) (channel n end : ℕ) (bytes out : List ℕ) → heardBy01 bytes ≡ Request channel n end → lone t (Datagram bytes out) .0 .0 .number ≡ 0
     → getD (lone t (Datagram bytes out) .0 .0 .values) 1 0 ≡ 11 → heardBy01 (lone t (Datagram bytes out) .0 .1) ≡ Ack channel n 0
-ack-heard = Exchange.ack-heard
+ack-heard t channel n end bytes out is z w = Exchange.ack-heard Crate t channel n end bytes out is z (omega (arith, w))
 
 -- the cEMI that is heard is the part that the frame's parse and the body's hand out
 pub cemi-same : (s : List ℕ) (f : FrameFields) (body : List ℕ) (q : TunnelingRequest) (cemi : List ℕ)

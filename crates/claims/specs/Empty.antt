@@ -26,7 +26,7 @@ use Rattle.ldata.specs.RoundTrip as LDataRoundTrip
 use Rattle.ldata.specs.declared.count.Counting.{Counting}
 use Rattle.ldata.specs.declared.count.Counting.the-variants.{Crate, Standard}
 use Rattle.ldata.specs.declared.builder.LDataBuilder.{LDataBuilder}
-use Rattle.tunnel_datagram.specs.Hearing.{heardBy01}
+use Rattle.tunnel_datagram.specs.Hearing.{heardIn}
 use Rattle.tunnel_datagram.specs.declared.hearing.Heard.{Heard}
 use Rattle.tunnel_datagram.specs.declared.hearing.Heard.the-variants.{Request, Ack, Refused}
 use Rattle.tunnel.specs.Rules.{afresh}
@@ -34,7 +34,7 @@ use Rattle.tunnel.specs.declared.rules.Said.the-variants.{Ignored}
 use Rattle.tunnel_model.specs.Firsts.{oneIf, isNone, countOf}
 use Rattle.tunnel_model.specs.FirstLaws.{clash, none-some}
 use Rattle.tunnel_model.specs.Store.{Machine, Seen, Isolates, Others, Opens}
-use Rattle.tunnel_model.specs.Calls.{Call, Open, Close, Timeout, Send, Datagram, Outcome, outOf, refuses, says}
+use Rattle.tunnel_model.specs.Calls.{Call, Open, Close, Timeout, Send, Datagram, DatagramIn, Outcome, outOf, refuses, says}
 use Rattle.tunnel_model.specs.Table.{chan, emptyOf, tableOf}
 use Rattle.tunnel_table.specs.Places.{kind}
 use Rattle.tunnel_table.specs.declared.places.Place.{Place}
@@ -194,8 +194,8 @@ secondEnd (x ∷ y ∷ rest) = y .0 .0 .end
 
 -- a table that handles the first datagram and afterwards says "ignored"
 abbrev nap : Bool → List Place → Call → Outcome × (List Place × Bool)
-nap true l (Datagram bytes out) = (says Ignored out, (l, true))
-nap false l (Datagram bytes out) = (plain .step l (Datagram bytes out) .0, (plain .step l (Datagram bytes out) .1, true))
+nap true l (DatagramIn form bytes out) = (says Ignored out, (l, true))
+nap false l (DatagramIn form bytes out) = (plain .step l (DatagramIn form bytes out) .0, (plain .step l (DatagramIn form bytes out) .1, true))
 nap f l (Open b) = (plain .step l (Open b) .0, (plain .step l (Open b) .1, f))
 nap f l (Close b) = (plain .step l (Close b) .0, (plain .step l (Close b) .1, f))
 nap f l (Timeout b) = (plain .step l (Timeout b) .0, (plain .step l (Timeout b) .1, f))
@@ -216,7 +216,7 @@ shaken (Ack channel n status) l = l
 shaken (Refused e) l = emptyOf kind 8
 
 abbrev shake : List Place → Call → List Place
-shake l (Datagram bytes out) = shaken (heardBy01 bytes) l
+shake l (DatagramIn form bytes out) = shaken (heardIn form bytes) l
 shake l (Open b) = l
 shake l (Close b) = l
 shake l (Timeout b) = l

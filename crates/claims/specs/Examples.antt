@@ -12,6 +12,7 @@ use Rattle.tunnel.specs.Rules.{afresh, arrivalOf}
 use Rattle.tunnel.specs.declared.rules.Wait.the-variants.{Idle, First, Second}
 use Rattle.tunnel.specs.declared.rules.Tunnel.{Tunnel}
 use Rattle.tunnel.specs.declared.rules.Said.the-variants.{Nothing, Repeat, Deliver, Duplicate, Sent}
+use Rattle.tunnelling.specs.declared.form.Form.the-variants.{Crate}
 use Rattle.tunnel.specs.declared.rules.Arrival.{Arrival}
 use Rattle.tunnel.specs.declared.rules.Arrival.the-variants as Arrival
 use Rattle.tunnel_model.specs.Store.{Seen, run, reached, names, tableTrace, loneTrace, callsOf, seen}
@@ -125,7 +126,7 @@ climbs (suc k) h =
     ap (tableOf kind 8 .look 21) (run-on (tableOf kind 8 .start) (asked k) (c ∷ []))
     ∙ ap (λ (o : Option Tunnel). lastSeen (seen chan o true x [])) (sym there)
     ∙ ap lastSeen (isolates (asked k) (c ∷ []) 21 p there)
-    ∙ ap (λ (x : Arrival). arrived x p 21 k 12 room .1) arrives
+    ∙ ap (λ (x : Arrival). arrived Crate x p 21 k 12 room .1) arrives
     ∙ ap (λ (r : ℕ). at r 0) next
 
 pub r-255 : tableOf kind 8 .look 21 (reached chan (tableOf kind 8) (asked 255)) ≡ at 255 0

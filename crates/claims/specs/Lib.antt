@@ -4,6 +4,7 @@ pub mod Demand2
 pub mod Demand3
 pub mod AdditionalInfo
 pub mod StandardCount
+pub mod StandardForm
 pub mod Examples
 pub mod Inspection
 pub mod Empty

@@ -65,6 +65,9 @@ use Rattle.tunnelling.specs.ConnectionLaws as ConnectionLaws
 use Rattle.tunnelling.specs.Request as TunnelingRequest
 use Rattle.tunnelling.specs.RequestLaws as TunnelingRequestLaws
 use Rattle.tunnelling.specs.Ack as TunnelingAck
+use Rattle.tunnelling.specs.AckForm as AckForm
+use Rattle.tunnelling.specs.declared.form.Form.{Form}
+use Rattle.tunnelling.specs.declared.form.Form.the-variants as Form
 use Rattle.tunnelling.specs.AckLaws as TunnelingAckLaws
 use denote.Ref.{now}
 use Rattle.inspection.specs.Scanning as Scanning
@@ -85,7 +88,7 @@ use Rattle.tunnel_datagram.specs.HearingLaws as HearingLaws
 use Rattle.tunnel.specs.Numbers as Numbers
 use Rattle.tunnel.specs.Rules as Rules
 use Rattle.tunnel.specs.declared.rules.Tunnel.{Tunnel}
-use Rattle.tunnel_model.specs.Calls.{Call, Open, Close, Timeout, Send, Datagram}
+use Rattle.tunnel_model.specs.Calls.{Call, Open, Close, Timeout, Send, Datagram, DatagramIn}
 use Rattle.digits.specs.Digits as Digits
 use Rattle.kip.specs.Capture as Capture
 use Rattle.frame.specs.Judging as Judging
@@ -100,7 +103,7 @@ use Rattle.replay.specs.Records as Records
 use Rattle.replay.specs.declared.records.Record.{Record}
 use Rattle.replay.specs.declared.telling.Told.{Told}
 use Rattle.tunnel_datagram.specs.declared.hearing.Heard.{Heard}
-use Rattle.tunnel_table.specs.Table.{EmptyPromise, CallPromise, heardOn, HeardPromise}
+use Rattle.tunnel_table.specs.Table.{EmptyPromise, CallPromise, heardOn, HeardPromise, heardInOn, HeardInPromise}
 use Rattle.tunnel_table.specs.Compiled as Compiled
 use Rattle.tunnel_table.specs.declared.table.Table.{Table}
 use Rattle.tunnel_table.specs.declared.table.Called.{Called}
@@ -108,6 +111,8 @@ use Rattle.tunnel_image.specs.Image as Image
 use Rattle.tunnel_image.specs.ImageLaws as ImageLaws
 use Rattle.knx.specs.Reading as KnxReading
 use Rattle.knx.specs.ReadingLaws as KnxReadingLaws
+use Rattle.knx.specs.Channel as KnxChannel
+use Rattle.knx.specs.ChannelLaws as KnxChannelLaws
 use Rattle.knx.specs.CemiLData as CemiLData
 use Rattle.knx.specs.CemiLDataLaws as CemiLDataLaws
 use Rattle.knx.specs.Building as Building
@@ -622,6 +627,14 @@ connect-request-build = ConnectRequestLaws.build-one
 pub connect-response-parse : One ConnectResponse.ParsePromise
 connect-response-parse = ConnectResponseLaws.parse-one
 
+-- connect::ConnectResponse::parse_standard
+pub connect-response-parse-standard : One ConnectResponse.ParseStandardPromise
+connect-response-parse-standard = ConnectResponseLaws.parse-standard-one
+
+-- connect::ConnectResponse::individual_address
+pub connect-response-individual-address : One ConnectResponse.IndividualAddressPromise
+connect-response-individual-address c r q = same
+
 -- connect::ConnectResponse::is_ok
 pub connect-response-is-ok : One ConnectResponse.IsOkPromise
 connect-response-is-ok c r q = same
@@ -649,6 +662,18 @@ disconnect-request-new channel h r q = same
 -- connect::DisconnectRequest::build
 pub disconnect-request-build : Lent Channel.DisconnectBuildPromise
 disconnect-request-build q = ChannelLaws.request-one ServiceType.DisconnectRequest (q .«channel_id») (q .«control_endpoint»)
+
+-- connect::DisconnectRequest::parse
+pub disconnect-request-parse : One Channel.DisconnectRequestParsePromise
+disconnect-request-parse = ChannelLaws.request-parse-one
+
+-- connect::DisconnectResponse::new
+pub disconnect-response-new : One₂ Channel.DisconnectResponseNewPromise
+disconnect-response-new channel code r q = same
+
+-- connect::DisconnectResponse::build
+pub disconnect-response-build : Lent Channel.DisconnectResponseBuildPromise
+disconnect-response-build = ChannelLaws.response-one
 
 -- connect::DisconnectResponse::parse
 pub disconnect-response-parse : One Channel.DisconnectParsePromise
@@ -700,6 +725,14 @@ ack-new h status r q = same
 pub ack-build : Lent TunnelingAck.BuildPromise
 ack-build = TunnelingAckLaws.build-one
 
+-- tunnelling::TunnelingAck::build_in
+pub ack-build-in : Lent₂ AckForm.BuildInPromise
+ack-build-in = TunnelingAckLaws.build-in-one
+
+-- tunnelling::TunnelingAck::parse_in
+pub ack-parse-in : One₂ AckForm.ParseInPromise
+ack-parse-in = TunnelingAckLaws.parse-in-one
+
 -- tunnelling::TunnelingAck::parse
 pub ack-parse : One TunnelingAck.ParsePromise
 ack-parse = TunnelingAckLaws.parse-one
@@ -713,6 +746,10 @@ ack-is-ok a r q = same
 -- tunnel_datagram::hear
 pub datagram-hear : One Hearing.HearPromise
 datagram-hear = HearingLaws.hear-one
+
+-- tunnel_datagram::hear_in
+pub datagram-hear-in : One₂ Hearing.HearInPromise
+datagram-hear-in = HearingLaws.hear-in-one
 
 -- ---- tunnel
 
@@ -784,6 +821,14 @@ table-send id cemi out t = Compiled.call-one t (Send id cemi out)
 -- tunnel_table::Table::heard
 pub table-heard : (t : Table) (h : Heard) (out : List ℕ) (r q : Called) (after later : List ℕ) → HeardPromise t h out r after → HeardPromise t h out q later → (r ≡ q) × (after ≡ later)
 table-heard t h out = Compiled.called-one (heardOn h out (t .places))
+
+-- tunnel_table::Table::heard_in
+pub table-heard-in : (f : Form) (t : Table) (h : Heard) (out : List ℕ) (r q : Called) (after later : List ℕ) → HeardInPromise f t h out r after → HeardInPromise f t h out q later → (r ≡ q) × (after ≡ later)
+table-heard-in f t h out = Compiled.called-one (heardInOn f h out (t .places))
+
+-- tunnel_table::Table::datagram_in
+pub table-datagram-in : (f : Form) (bytes out : List ℕ) → OneCall (λ t. CallPromise t (DatagramIn f bytes out))
+table-datagram-in f bytes out t = Compiled.call-one t (DatagramIn f bytes out)
 
 -- tunnel_table::Table::datagram
 pub table-datagram : (bytes out : List ℕ) → OneCall (λ t. CallPromise t (Datagram bytes out))
@@ -925,6 +970,23 @@ knx-hpai-parse = KnxReadingLaws.hpai-one
 pub knx-connect-response : One KnxReading.ConnectResponsePromise
 knx-connect-response = KnxReadingLaws.connect-response-one
 
+-- knx::knx_connect_response_standard
+pub knx-connect-response-standard : One KnxReading.ConnectResponseStandardPromise
+knx-connect-response-standard = KnxReadingLaws.connect-response-standard-one
+
+-- knx::knx_own_address
+pub knx-own-address : One KnxReading.OwnAddressPromise
+knx-own-address = KnxReadingLaws.own-address-one
+
+-- knx::knx_connectionstate_response
+-- knx::knx_disconnect_response
+pub knx-status : One KnxChannel.StatusPromise
+knx-status = KnxChannelLaws.status-one
+
+-- knx::knx_disconnect_request_parse
+pub knx-disconnect-request-parse : One KnxChannel.DisconnectRequestPromise
+knx-disconnect-request-parse = KnxChannelLaws.disconnect-request-one
+
 -- knx::knx_cemi_ldata
 pub knx-cemi-ldata : One CemiLData.CemiLDataPromise
 knx-cemi-ldata = CemiLDataLaws.cemi-ldata-one Crate
@@ -983,7 +1045,15 @@ knx-tunneling-request = BuildingLaws.tunneling-request-one
 
 -- knx::knx_tunneling_ack
 pub knx-tunneling-ack : Lent₃ Building.TunnelingAckPromise
-knx-tunneling-ack = BuildingLaws.tunneling-ack-one
+knx-tunneling-ack = BuildingLaws.tunneling-ack-one Form.Crate
+
+-- knx::knx_tunneling_ack_standard
+pub knx-tunneling-ack-standard : Lent₃ Building.TunnelingAckStandardPromise
+knx-tunneling-ack-standard = BuildingLaws.tunneling-ack-one Form.Standard
+
+-- knx::knx_disconnect_response_build
+pub knx-disconnect-response-build : Lent₂ Building.DisconnectResponseBuildPromise
+knx-disconnect-response-build = BuildingLaws.disconnect-response-one
 
 -- knx::knx_table_empty
 pub knx-table-empty : (image : List ℕ) (r q : KnxWritten) (after later : List ℕ) → Called.EmptyPromise image r after → Called.EmptyPromise image q later → (r ≡ q) × (after ≡ later)
@@ -1016,6 +1086,10 @@ knx-table-send id cemi out image = CalledLaws.call-one image (Send id cemi out)
 -- knx::knx_table_datagram
 pub knx-table-datagram : (bytes out : List ℕ) → OneImage (λ image. Called.DatagramPromise image bytes out)
 knx-table-datagram bytes out image = CalledLaws.call-one image (Datagram bytes out)
+
+-- knx::knx_table_datagram_standard
+pub knx-table-datagram-standard : (bytes out : List ℕ) → OneImage (λ image. Called.DatagramStandardPromise image bytes out)
+knx-table-datagram-standard bytes out image = CalledLaws.call-one image (DatagramIn Form.Standard bytes out)
 
 -- ---- replay: what the programs that replay recorded calls share; of a record that was read, which no contract can say, the buffer that is lent to its call
 

@@ -1,13 +1,13 @@
--- Connection state and disconnect: requests of 16 bytes, a shorter buffer is 1; responses need 2 bytes. Each shape is said once. Assumes nothing.
+-- Connection state and disconnect: requests of 16 bytes, a shorter buffer is 1; responses need 2 bytes. Each shape is said once. Behind 01's, what a host needs where the gateway is the one to disconnect. Assumes nothing.
 use Prim.Native.Nat.{ℕ}
 use mathlib.Core.Path.{_≡_}
 use mathlib.Core.Bool.{Bool}
 use mathlib.Core.List.{List, [], _∷_, _++_}
-use lib.ListN.{length}
+use lib.ListN.{length, getD, drop, replicate}
 use lib.Dec.{eqb}
 use Rattle.wire.specs.Told.{Told, done, refused, Check}
 use Rattle.wire.specs.Writing.{Writes, room}
-use Rattle.wire.specs.Layout.{Field, byte, put}
+use Rattle.wire.specs.Layout.{Field, byte, size, put}
 use Rattle.wire.specs.Format.{Format, readBy01}
 use Rattle.wire.specs.declared.refusals.Written.{Written}
 use Rattle.constants.specs.declared.services.ServiceType.{ServiceType}
@@ -20,6 +20,7 @@ use Rattle.connect.specs.declared.channel.ConnectionStateResponse.{Conne
 use Rattle.connect.specs.declared.channel.ConnectionStateAnswer.{ConnectionStateAnswer}
 use Rattle.connect.specs.declared.channel.ConnectionStateAnswer.the-variants as ConnectionStateAnswer
 use Rattle.connect.specs.declared.channel.DisconnectRequest.{DisconnectRequest}
+use Rattle.connect.specs.declared.channel.DisconnectRequestAnswer.{DisconnectRequestAnswer}
 use Rattle.connect.specs.declared.channel.DisconnectResponse.{DisconnectResponse}
 use Rattle.connect.specs.declared.channel.DisconnectAnswer.{DisconnectAnswer}
 use Rattle.connect.specs.declared.channel.DisconnectAnswer.the-variants as DisconnectAnswer
@@ -93,3 +94,36 @@ StateIsOkPromise c r = r ≡ eqb (c .status) 0
 
 abbrev pub DisconnectIsOkPromise : DisconnectResponse → Bool → Type 0
 DisconnectIsOkPromise c r = r ≡ eqb (c .status) 0
+
+-- ---- a disconnect request that came in, 03_08_02: channel, a reserved byte, the gateway's control endpoint
+
+abbrev pub requestFields : List Field
+requestFields = byte ∷ byte ∷ Hpai.fields
+
+-- fewer than 10 (1), then the checks of the Hpai; the reserved byte is not looked at
+abbrev pub requestFormat : Format
+requestFormat = record { fields = requestFields; asks = λ vs. Hpai.checks (size Hpai.fields) (drop 2 vs); valuesIn = λ vs. getD vs 0 0 ∷ drop 2 vs }
+
+abbrev pub toldRequest : DisconnectRequestAnswer → Told
+toldRequest r = record { number = r .number; values = r .request .«channel_id» ∷ Hpai.values (r .request .«control_endpoint»); start = 0; end = 0 }
+
+abbrev pub DisconnectRequestParsePromise : List ℕ → DisconnectRequestAnswer → Type 0
+DisconnectRequestParsePromise s r = toldRequest r ≡ readBy01 requestFormat s
+
+-- eight zeros beside the number
+abbrev pub NoRequestPromise : ℕ → DisconnectRequestAnswer → Type 0
+NoRequestPromise n r = toldRequest r ≡ record { number = n; values = replicate 8 0; start = 0; end = 0 }
+
+-- ---- the response that it is owed: 8 bytes, a shorter buffer is 1. `06 10 02 0A 00 08 15 00` is channel 0x15, status 0
+
+abbrev pub DisconnectResponseNewPromise : ℕ → ℕ → DisconnectResponse → Type 0
+DisconnectResponseNewPromise channel code r = r ≡ record { «channel_id» = channel; status = code }
+
+abbrev pub statusLayout : ℕ → ℕ → List ℕ
+statusLayout channel code = put statusFields (channel ∷ code ∷ [])
+
+abbrev pub responseChecks : ℕ → List Check
+responseChecks m = room 8 m ∷ []
+
+abbrev pub DisconnectResponseBuildPromise : DisconnectResponse → List ℕ → Written → List ℕ → Type 0
+DisconnectResponseBuildPromise q b r after = Writes (responseChecks (length b)) (frame ServiceType.DisconnectResponse (statusLayout (q .«channel_id») (q .status))) b r after

@@ -1,18 +1,21 @@
 -- Connection state and disconnect: requests come back from their frames, responses have their layout, and no second answer. Assumes nothing.
-use Prim.Native.Nat.{ℕ}
+use Prim.Native.Nat.{ℕ, _≤_}
 use native.Mathlib.Omega.{arith}
 use mathlib.Core.Path.{_≡_, refl, sym, ap, _∙_}
 use mathlib.Core.List.{List, [], _∷_, append-nil}
 use lib.ListN.{length, getD, take, drop}
-use Rattle.wire.specs.Told.{Told}
+use borrow.Author.Tests.{le-ltb, eq-eqb}
+use Rattle.wire.specs.Told.{Told, done}
 use Rattle.wire.specs.ToldLaws.{one-to-one, answerOf, back-refused, same}
-use Rattle.wire.specs.Layout.{put}
+use Rattle.wire.specs.Layout.{put, get}
+use Rattle.wire.specs.Format.{readBy01}
 use Rattle.wire.specs.FormatLaws as FormatLaws
 use Rattle.wire.specs.LayoutLaws.{Bytes}
 use Rattle.wire.specs.WritingLaws.{writes-one}
 use Rattle.wire.specs.declared.refusals.Written.{Written}
 use Rattle.wire.specs.declared.refusals.Written.the-variants as Written
 use Rattle.constants.specs.declared.services.ServiceType.{ServiceType}
+use Rattle.constants.specs.declared.services.ServiceType.the-variants as ServiceType
 use Rattle.frame.specs.Write.{frame}
 use Rattle.frame.specs.Frame as Frame
 use Rattle.frame.specs.RoundTrip.{Carries, carries}
@@ -21,9 +24,13 @@ use Rattle.hpai.specs.Hpai as Hpai
 use Rattle.hpai.specs.HpaiLaws as HpaiLaws
 use Rattle.hpai.specs.declared.Hpai.{Hpai}
 use Rattle.hpai.specs.declared.HpaiAnswer.{HpaiAnswer}
-use Rattle.connect.specs.Channel.{requestLayout, requestChecks, RequestPromise, statusFields, statusFormat, statusBy01, status, toldState, StateParsePromise, toldDisconnect, DisconnectParsePromise}
+use Rattle.connect.specs.EndpointLaws as EndpointLaws
+use Rattle.connect.specs.Channel.{requestLayout, requestChecks, RequestPromise, DisconnectBuildPromise, statusFields, statusFormat, statusBy01, status, toldState, StateParsePromise, toldDisconnect, DisconnectParsePromise, requestFields, requestFormat, toldRequest, DisconnectRequestParsePromise, statusLayout, responseChecks, DisconnectResponseBuildPromise}
 use Rattle.connect.specs.declared.channel.ConnectionStateAnswer.{ConnectionStateAnswer}
 use Rattle.connect.specs.declared.channel.ConnectionStateAnswer.the-variants as ConnectionStateAnswer
+use Rattle.connect.specs.declared.channel.DisconnectRequest.{DisconnectRequest}
+use Rattle.connect.specs.declared.channel.DisconnectRequestAnswer.{DisconnectRequestAnswer}
+use Rattle.connect.specs.declared.channel.DisconnectResponse.{DisconnectResponse}
 use Rattle.connect.specs.declared.channel.DisconnectAnswer.{DisconnectAnswer}
 use Rattle.connect.specs.declared.channel.DisconnectAnswer.the-variants as DisconnectAnswer
 
@@ -81,3 +88,73 @@ disconnect-parse-one s r q a b = disconnect-told-one r q (same a b)
 pub has-layout : (s : List ℕ) (channel code : ℕ) → Bytes s → status channel code ≡ statusBy01 s → take 2 s ≡ put statusFields (channel ∷ code ∷ [])
 has-layout s channel code b q =
     let x = FormatLaws.accepted statusFormat s (status channel code) refl q in x .bytes b ∙ ap (λ (t : Told). put statusFields (t .values)) (sym (x .told-is))
+
+-- ---- a disconnect request that came in
+
+-- on from its endpoint
+module _ (s : List ℕ) (enough : 10 ≤ length s) (h : HpaiAnswer) (parsed : Hpai.ParsePromise (take 8 (drop 2 s)) h) where
+  pub fell : (h .number ≡ 0 → ⊥) → record { number = h .number; values = 0 ∷ 0 ∷ 0 ∷ 0 ∷ 0 ∷ 0 ∷ 0 ∷ 0 ∷ []; start = 0; end = 0 } ≡ readBy01 requestFormat s
+  fell some = simp (le-ltb (length s) 10 enough) (EndpointLaws.refuses s enough h parsed (done (getD s 0 0 ∷ get Hpai.fields 2 s)) some)
+
+  pub stood : h .number ≡ 0 → done (getD s 0 0 ∷ Hpai.values (h .hpai)) ≡ readBy01 requestFormat s
+  stood zero =
+      ap (λ (us : List ℕ). done (getD s 0 0 ∷ us)) (EndpointLaws.read s enough h parsed zero)
+      ∙ simp (le-ltb (length s) 10 enough) (EndpointLaws.lets s enough h parsed (done (getD s 0 0 ∷ get Hpai.fields 2 s)) zero)
+
+abbrev requestOf : Told → DisconnectRequestAnswer
+requestOf t = record { number = t .number; request = record { «channel_id» = getD (t .values) 0 0; «control_endpoint» = HpaiLaws.hpaiOf (drop 1 (t .values)) } }
+
+request-back : (r : DisconnectRequestAnswer) → requestOf (toldRequest r) ≡ r
+request-back r =
+    ap (λ (h : Hpai). record { number = r .number; request = record { «channel_id» = r .request .«channel_id»; «control_endpoint» = h } }) (HpaiLaws.hpai-of-values (r .request .«control_endpoint»))
+
+request-told-one : (r q : DisconnectRequestAnswer) → toldRequest r ≡ toldRequest q → r ≡ q
+request-told-one = one-to-one toldRequest requestOf request-back
+
+pub request-parse-one : (s : List ℕ) (r q : DisconnectRequestAnswer) → DisconnectRequestParsePromise s r → DisconnectRequestParsePromise s q → r ≡ q
+request-parse-one s r q a b = request-told-one r q (same a b)
+
+abbrev pub accepted : DisconnectRequest → DisconnectRequestAnswer
+accepted q = record { number = 0; request = q }
+
+-- what is read of its body: the same request
+abbrev pub ReadsRequest : DisconnectRequest → List ℕ → Type 0
+ReadsRequest q part = (r : DisconnectRequestAnswer) → DisconnectRequestParsePromise part r → r ≡ accepted q
+
+request-reads : (q : DisconnectRequest) → HpaiLaws.Proper (q .«control_endpoint») → ReadsRequest q (requestLayout (q .«channel_id») (q .«control_endpoint»))
+request-reads q p r x =
+    let h : Hpai = q .«control_endpoint» in
+    let vs : List ℕ = q .«channel_id» ∷ 0 ∷ Hpai.values h in
+    let nine : length vs ≡ 9 = omega (arith, HpaiLaws.length-values h (p .address-4)) in
+    request-told-one r (accepted q)
+    (x ∙ ap (readBy01 requestFormat) (sym (append-nil (requestLayout (q .«channel_id») h)))
+    ∙ FormatLaws.reads-back requestFormat vs [] nine (simp (eq-eqb (h .«structure_length») 8 (p .length-8))))
+
+-- built, parsed as a frame, its body parsed
+pub request-round-trip : (q : DisconnectRequest) (b : List ℕ) (n : ℕ) (after : List ℕ) (p : FrameAnswer) → HpaiLaws.Proper (q .«control_endpoint»)
+    → DisconnectBuildPromise q b (Written.Bytes n) after → Frame.ParsePromise after p → Carries ServiceType.DisconnectRequest 16 n after p (ReadsRequest q)
+request-round-trip q b n after p proper built parsed =
+    carries (requestChecks (length b)) ServiceType.DisconnectRequest (requestLayout (q .«channel_id») (q .«control_endpoint»)) b 16 n after p (ReadsRequest q)
+    (omega (arith, HpaiLaws.length-layout (q .«control_endpoint») (proper .address-4))) built parsed (request-reads q proper)
+
+-- what is accepted has the layout of its answer, but for the reserved byte
+pub request-has-layout : (s : List ℕ) (q : DisconnectRequest) → Bytes s → DisconnectRequestParsePromise s (accepted q)
+    → take 10 s ≡ put requestFields (q .«channel_id» ∷ getD s 1 0 ∷ Hpai.values (q .«control_endpoint»))
+request-has-layout s q b p =
+    let x = FormatLaws.accepted requestFormat s (toldRequest (accepted q)) refl p in
+    x .bytes b ∙ ap (λ (t : Told). put requestFields (getD (t .values) 0 0 ∷ getD s 1 0 ∷ drop 1 (t .values))) (sym (x .told-is))
+
+-- ---- the response that it is owed
+
+pub response-one : (q : DisconnectResponse) (b : List ℕ) (r w : Written) (after later : List ℕ)
+    → DisconnectResponseBuildPromise q b r after → DisconnectResponseBuildPromise q b w later → (r ≡ w) × (after ≡ later)
+response-one q b = writes-one (responseChecks (length b)) (frame ServiceType.DisconnectResponse (statusLayout (q .«channel_id») (q .status))) b
+
+abbrev pub ReadsResponse : DisconnectResponse → List ℕ → Type 0
+ReadsResponse q part = (r : DisconnectAnswer) → DisconnectParsePromise part r → r ≡ DisconnectAnswer.Response q
+
+pub response-round-trip : (q : DisconnectResponse) (b : List ℕ) (n : ℕ) (after : List ℕ) (p : FrameAnswer)
+    → DisconnectResponseBuildPromise q b (Written.Bytes n) after → Frame.ParsePromise after p → Carries ServiceType.DisconnectResponse 8 n after p (ReadsResponse q)
+response-round-trip q b n after p built parsed =
+    carries (responseChecks (length b)) ServiceType.DisconnectResponse (statusLayout (q .«channel_id») (q .status)) b 8 n after p (ReadsResponse q) refl built parsed
+    (λ r x. disconnect-told-one r (DisconnectAnswer.Response q) x)

@@ -1,13 +1,15 @@
 -- "A connect response body needs 14 bytes (1) whatever its status, then the `Hpai` checks." Assumes nothing.
 use Prim.Native.Nat.{ℕ}
 use mathlib.Core.Path.{_≡_}
-use mathlib.Core.Bool.{Bool}
+use mathlib.Core.Bool.{Bool, cond}
 use mathlib.Core.List.{List, [], _∷_, _++_}
-use lib.ListN.{length, drop, replicate}
-use lib.Dec.{eqb}
-use Rattle.wire.specs.Told.{Told, Check}
-use Rattle.wire.specs.Layout.{Field, byte, run, size, put}
+use lib.ListN.{length, getD, drop, replicate}
+use lib.Dec.{eqb, ltb}
+use Rattle.wire.specs.Told.{Told, done, Check, _⇒_, judged}
+use Rattle.wire.specs.Layout.{Field, byte, run, wordAt, size, put, get}
 use Rattle.wire.specs.Format.{Format, checksOf, readBy01}
+use Rattle.wire.specs.declared.refusals.Refusal.the-variants.{BufferTooSmall}
+use Rattle.address.specs.declared.IndividualAddress.{IndividualAddress}
 use Rattle.hpai.specs.Hpai as Hpai
 use Rattle.connect.specs.declared.response.ConnectResponse.{ConnectResponse}
 use Rattle.connect.specs.declared.response.ConnectResponseAnswer.{ConnectResponseAnswer}
@@ -50,3 +52,33 @@ RefusedPromise n r = (told r ≡ record { number = n; values = replicate 13 0; s
 
 abbrev pub IsOkPromise : ConnectResponse → Bool → Type 0
 IsOkPromise c r = r ≡ eqb (c .status) 0
+
+-- ---- KNX's own form, 03_08_02: a response that refuses has no endpoint and no data, and ends behind its status. `00 24` is "no more connections"
+
+abbrev pub statusIn : List ℕ → ℕ
+statusIn vs = getD vs 1 0
+
+-- of a body of n bytes with these values: fewer than 2 (1); with status 0 then 01's, with another nothing more
+abbrev pub knxChecks : ℕ → List ℕ → List Check
+knxChecks n vs = ltb n 2 ⇒ BufferTooSmall ∷ cond (eqb (statusIn vs) 0) (checks n vs) []
+
+-- channel and status alone, and zeros
+abbrev pub bare : ℕ → ℕ → List ℕ
+bare channel status = channel ∷ status ∷ replicate 11 0
+
+abbrev pub knxValues : List ℕ → List ℕ
+knxValues vs = cond (eqb (statusIn vs) 0) vs (bare (getD vs 0 0) (statusIn vs))
+
+abbrev pub parseByKnx : List ℕ → Told
+parseByKnx s = judged (knxChecks (length s) (get fields 0 s)) (done (knxValues (get fields 0 s)))
+
+abbrev pub ParseStandardPromise : List ℕ → ConnectResponseAnswer → Type 0
+ParseStandardPromise s r = (told r ≡ parseByKnx s) × Arrays (r .response)
+
+abbrev pub BarePromise : ℕ → ℕ → ConnectResponse → Type 0
+BarePromise channel status r = (values r ≡ bare channel status) × Arrays r
+
+-- ---- our own individual address: the last two bytes of the connection response data. `04 04 11 05` is 1.1.5
+
+abbrev pub IndividualAddressPromise : ConnectResponse → IndividualAddress → Type 0
+IndividualAddressPromise c r = r ≡ record { 0 = wordAt (c .crd) 2 }

@@ -1,49 +1,43 @@
--- A connect response: how it goes on from its endpoint, both ways, and no second answer. Assumes nothing.
-use Prim.Native.Nat.{ℕ, _≤_}
+-- A connect response: how it goes on from its endpoint, both ways, and no second answer; then in KNX's form. Assumes nothing.
+use Prim.Native.Nat.{ℕ, _<_, _≤_}
 use native.Mathlib.Omega.{arith}
 use mathlib.Core.Path.{_≡_, refl, sym, ap, _∙_}
+use mathlib.Core.Bool.{Bool, true, false, cond}
+use mathlib.Core.Logic.{_↔_}
 use mathlib.Core.List.{List, [], _∷_, _++_, append-assoc}
-use lib.ListN.{length, getD, take, drop, length-append, length-drop}
-use lib.Seq.{take-at, drop-at, getD-at, length-take-le}
-use borrow.Author.Tests.{le-ltb, eq-eqb}
-use Rattle.wire.specs.Told.{Told, done, verdict, judged}
-use Rattle.wire.specs.ToldLaws.{refused-as, let-pass, was-accepted, let-through, same}
-use Rattle.wire.specs.Layout.{runAt, put, get}
+use lib.ListN.{length, getD, take, drop, length-append}
+use lib.Seq.{take-at, drop-at, getD-at}
+use lib.Dec.{ltb, eqb}
+use borrow.Author.Tests.{lt-ltb, le-ltb, ltb-true, eq-eqb, ne-eqb, eqb-true, eqb-false}
+use Rattle.wire.specs.Told.{Told, done, refused, verdict, answer}
+use Rattle.wire.specs.ToldLaws.{same}
+use Rattle.wire.specs.Layout.{byte, runAt, put, get}
 use Rattle.wire.specs.FormatLaws as FormatLaws
-use Rattle.wire.specs.LayoutLaws.{Bytes, get-part}
-use Rattle.wire.specs.declared.refusals.Verdict.the-variants.{Accept}
+use Rattle.wire.specs.LayoutLaws.{Bytes}
+use Rattle.wire.specs.declared.refusals.Refusal.the-variants.{BufferTooSmall}
+use Rattle.wire.specs.declared.refusals.Verdict.{Verdict}
+use Rattle.wire.specs.declared.refusals.Verdict.the-variants.{Accept, Refuse}
 use Rattle.hpai.specs.Hpai as Hpai
 use Rattle.hpai.specs.declared.Hpai.{Hpai}
 use Rattle.hpai.specs.declared.HpaiAnswer.{HpaiAnswer}
-use Rattle.connect.specs.Response.{fields, format, values, layout, checks, told, parseBy01, Arrays, ParsePromise}
+use Rattle.connect.specs.EndpointLaws as EndpointLaws
+use Rattle.connect.specs.Response.{fields, format, values, layout, checks, told, parseBy01, Arrays, ParsePromise, bare, parseByKnx, ParseStandardPromise}
 use Rattle.connect.specs.declared.response.ConnectResponse.{ConnectResponse}
 use Rattle.connect.specs.declared.response.ConnectResponseAnswer.{ConnectResponseAnswer}
 
 -- ---- on from the endpoint, which stands from 2 to 10
 
 module _ (s : List ℕ) (enough : 14 ≤ length s) (h : HpaiAnswer) (parsed : Hpai.ParsePromise (take 8 (drop 2 s)) h) where
-  heard : Hpai.told h ≡ judged (Hpai.checks 8 (get Hpai.fields 2 s)) (done (get Hpai.fields 2 s))
-  heard =
-      let eight : length (take 8 (drop 2 s)) ≡ 8 = length-take-le 8 (drop 2 s) (omega (arith, length-drop 2 s)) in
-      parsed
-      ∙ ap (λ (n : ℕ). judged (Hpai.checks n (get Hpai.fields 0 (take 8 (drop 2 s)))) (done (get Hpai.fields 0 (take 8 (drop 2 s))))) eight
-      ∙ ap (λ (vs : List ℕ). judged (Hpai.checks 8 vs) (done vs)) (get-part Hpai.fields 8 2 0 s (omega arith))
-
   -- the endpoint's refusal is the response's
   pub fell : (h .number ≡ 0 → ⊥) → record { number = h .number; values = 0 ∷ 0 ∷ 0 ∷ 0 ∷ 0 ∷ 0 ∷ 0 ∷ 0 ∷ 0 ∷ 0 ∷ 0 ∷ 0 ∷ 0 ∷ []; start = 0; end = 0 } ≡ parseBy01 s
-  fell some =
-      simp (le-ltb (length s) 14 enough)
-      (refused-as (verdict (Hpai.checks 8 (get Hpai.fields 2 s))) (done (get Hpai.fields 2 s)) (done (get fields 0 s)) (h .number) refl (ap (λ (t : Told). t .number) heard) some)
+  fell some = simp (le-ltb (length s) 14 enough) (EndpointLaws.refuses s (omega arith) h parsed (done (get fields 0 s)) some)
 
   -- and where it is accepted, the response is
   pub stood : h .number ≡ 0
       → done (getD s 0 0 ∷ getD s 1 0 ∷ (Hpai.values (h .hpai) ++ runAt 4 s 10)) ≡ parseBy01 s
   stood zero =
-      let vs : List ℕ = get Hpai.fields 2 s in
-      let all : verdict (Hpai.checks 8 vs) ≡ Accept = was-accepted (Hpai.checks 8 vs) (done vs) (Hpai.told h) zero heard in
-      let read : Hpai.values (h .hpai) ≡ vs = ap (λ (t : Told). t .values) (let-through (Hpai.checks 8 vs) (done vs) (Hpai.told h) zero heard) in
-      ap (λ (us : List ℕ). done (getD s 0 0 ∷ getD s 1 0 ∷ (us ++ runAt 4 s 10))) read
-      ∙ sym (simp (le-ltb (length s) 14 enough) (let-pass (Hpai.checks 8 vs) (done (get fields 0 s)) all))
+      ap (λ (us : List ℕ). done (getD s 0 0 ∷ getD s 1 0 ∷ (us ++ runAt 4 s 10))) (EndpointLaws.read s (omega arith) h parsed zero)
+      ∙ simp (le-ltb (length s) 14 enough) (EndpointLaws.lets s (omega arith) h parsed (done (get fields 0 s)) zero)
 
 -- ---- no second answer
 
@@ -72,12 +66,18 @@ response-of-values c a =
     let five : length (ip ++ port ∷ []) ≡ 5 = length-append ip (port ∷ []) ∙ omega (arith, a .address-4) in
     rw (address, number, drop-at (ip ++ port ∷ []) (c .crd) 5 five)
 
-pub parse-one : (s : List ℕ) (r q : ConnectResponseAnswer) → ParsePromise s r → ParsePromise s q → r ≡ q
-parse-one s r q a b =
+told-one : (r q : ConnectResponseAnswer) → Arrays (r .response) → Arrays (q .response) → told r ≡ told q → r ≡ q
+told-one r q a b e =
     let back : Told → ConnectResponseAnswer = λ t. record { number = t .number; response = responseOf (t .values) } in
-    let of-r : back (told r) ≡ r = ap (λ (c : ConnectResponse). record { number = r .number; response = c }) (response-of-values (r .response) (a .1)) in
-    let of-q : back (told q) ≡ q = ap (λ (c : ConnectResponse). record { number = q .number; response = c }) (response-of-values (q .response) (b .1)) in
-    sym of-r ∙ ap back (same (a .0) (b .0)) ∙ of-q
+    let of-r : back (told r) ≡ r = ap (λ (c : ConnectResponse). record { number = r .number; response = c }) (response-of-values (r .response) a) in
+    let of-q : back (told q) ≡ q = ap (λ (c : ConnectResponse). record { number = q .number; response = c }) (response-of-values (q .response) b) in
+    sym of-r ∙ ap back e ∙ of-q
+
+pub parse-one : (s : List ℕ) (r q : ConnectResponseAnswer) → ParsePromise s r → ParsePromise s q → r ≡ q
+parse-one s r q a b = told-one r q (a .1) (b .1) (same (a .0) (b .0))
+
+pub parse-standard-one : (s : List ℕ) (r q : ConnectResponseAnswer) → ParseStandardPromise s r → ParseStandardPromise s q → r ≡ q
+parse-standard-one s r q a b = told-one r q (a .1) (b .1) (same (a .0) (b .0))
 
 -- ---- both ways
 
@@ -96,3 +96,66 @@ reads-back c rest a e = FormatLaws.reads-back format (values c) rest (length-val
 -- what is accepted has the layout of its answer
 pub has-layout : (s : List ℕ) (c : ConnectResponse) → Bytes s → ParsePromise s (accepted c) → take 14 s ≡ layout c
 has-layout s c b q = let x = FormatLaws.accepted format s (told (accepted c)) refl (q .0) in x .bytes b ∙ ap (λ (t : Told). put fields (t .values)) (sym (x .told-is))
+
+-- ---- in KNX's form
+
+-- thirteen values, whatever the status
+thirteen : (s : List ℕ) (b : Bool) → length (cond b (get fields 0 s) (bare (getD s 0 0) (getD s 1 0))) ≡ 13
+thirteen s true = refl
+thirteen s false = refl
+
+pub too-short : (s : List ℕ) → length s < 2 → refused 13 BufferTooSmall ≡ parseByKnx s
+too-short s short =
+    sym (simp (lt-ltb (length s) 2 short) (ap (λ (k : ℕ). refused k BufferTooSmall) (thirteen s (eqb (getD s 1 0) 0))))
+
+-- with status 0 it is 01's
+pub as-01 : (s : List ℕ) → getD s 1 0 ≡ 0 → parseByKnx s ≡ parseBy01 s
+as-01 s zero = go (ltb (length s) 2) refl
+  where
+    go : (b : Bool) → ltb (length s) 2 ≡ b → parseByKnx s ≡ parseBy01 s
+    go true e = let few = ltb-true (length s) 2 e in sym (too-short s few) ∙ sym (simp (lt-ltb (length s) 14 (omega arith)))
+    go false e = simp (e, eq-eqb (getD s 1 0) 0 zero)
+
+-- a body with a byte other than 0 at 1 has two
+two : (s : List ℕ) → (getD s 1 0 ≡ 0 → ⊥) → 2 ≤ length s
+two [] some = absurd (some refl)
+two (x ∷ []) some = absurd (some refl)
+two (x ∷ y ∷ s) some = omega arith
+
+-- with another it has channel and status alone
+pub refusing : (s : List ℕ) → (getD s 1 0 ≡ 0 → ⊥) → parseByKnx s ≡ done (bare (getD s 0 0) (getD s 1 0))
+refusing s some = simp (le-ltb (length s) 2 (two s some), ne-eqb (getD s 1 0) 0 some)
+
+-- a response that refuses, and one that does not, are read back
+pub bare-back : (channel status : ℕ) (rest : List ℕ) → (status ≡ 0 → ⊥) → parseByKnx (put (byte ∷ byte ∷ []) (channel ∷ status ∷ []) ++ rest) ≡ done (bare channel status)
+bare-back channel status rest some = refusing (channel ∷ status ∷ rest) some
+
+pub knx-back : (c : ConnectResponse) (rest : List ℕ) → Arrays c → c .«data_endpoint» .«structure_length» ≡ 8 → c .status ≡ 0 → parseByKnx (layout c ++ rest) ≡ told (accepted c)
+knx-back c rest a e zero = as-01 (layout c ++ rest) zero ∙ reads-back c rest a e
+
+-- the status that is told is the body's
+status-01 : (s : List ℕ) (v : Verdict) → getD s 1 0 ≡ 0 → getD (answer v (done (get fields 0 s)) .values) 1 0 ≡ 0
+status-01 s Accept zero = zero
+status-01 s (Refuse e) zero = refl
+
+status-is : (s : List ℕ) (r : ConnectResponseAnswer) → ParseStandardPromise s r → (r .response .status ≡ 0) ↔ (getD s 1 0 ≡ 0)
+status-is s r q = (λ z. go (eqb (getD s 1 0) 0) refl z, λ zero. ap (λ (t : Told). getD (t .values) 1 0) (q .0 ∙ as-01 s zero) ∙ status-01 s (verdict (checks (length s) (get fields 0 s))) zero)
+  where
+    go : (b : Bool) → eqb (getD s 1 0) 0 ≡ b → r .response .status ≡ 0 → getD s 1 0 ≡ 0
+    go true e z = eqb-true (getD s 1 0) 0 e
+    go false e z = sym (ap (λ (t : Told). getD (t .values) 1 0) (q .0 ∙ refusing s (eqb-false (getD s 1 0) 0 e))) ∙ z
+
+-- and what is accepted has the layout of its answer: of one that refuses, two bytes
+first-two : (s : List ℕ) → (getD s 1 0 ≡ 0 → ⊥) → take 2 s ≡ getD s 0 0 ∷ getD s 1 0 ∷ []
+first-two [] some = absurd (some refl)
+first-two (x ∷ []) some = absurd (some refl)
+first-two (x ∷ y ∷ s) some = refl
+
+pub bare-has-layout : (s : List ℕ) (r : ConnectResponseAnswer) → ParseStandardPromise s r → (r .response .status ≡ 0 → ⊥)
+    → take 2 s ≡ put (byte ∷ byte ∷ []) (r .response .«channel_id» ∷ r .response .status ∷ [])
+bare-has-layout s r q some =
+    let other : getD s 1 0 ≡ 0 → ⊥ = λ z. some (status-is s r q .1 z) in
+    first-two s other ∙ sym (ap (λ (t : Told). getD (t .values) 0 0 ∷ getD (t .values) 1 0 ∷ []) (q .0 ∙ refusing s other))
+
+pub knx-has-layout : (s : List ℕ) (c : ConnectResponse) → Bytes s → ParseStandardPromise s (accepted c) → c .status ≡ 0 → take 14 s ≡ layout c
+knx-has-layout s c b q zero = has-layout s c b (q .0 ∙ as-01 s (status-is s (accepted c) q .0 zero), q .1)

@@ -1,5 +1,5 @@
 // Keeping a channel alive and closing it: two requests of one shape, two responses of one shape.
-ghost use Rattle.connect.specs.Channel.{StateNewPromise, StateBuildPromise, StateParsePromise, StateIsOkPromise, DisconnectNewPromise, DisconnectBuildPromise, DisconnectParsePromise, DisconnectIsOkPromise, RequestPromise, StatusPromise};
+ghost use Rattle.connect.specs.Channel.{StateNewPromise, StateBuildPromise, StateParsePromise, StateIsOkPromise, DisconnectNewPromise, DisconnectBuildPromise, DisconnectParsePromise, DisconnectIsOkPromise, RequestPromise, StatusPromise, DisconnectRequestParsePromise, NoRequestPromise, DisconnectResponseNewPromise, DisconnectResponseBuildPromise};
 use constants::ServiceType;
 use hpai::Hpai;
 use wire::Refusal;
@@ -23,6 +23,12 @@ pub enum ConnectionStateAnswer {
 pub struct DisconnectRequest {
     pub channel_id: u8,
     pub control_endpoint: Hpai,
+}
+
+// It holds an array, so a struct has the number beside it.
+pub struct DisconnectRequestAnswer {
+    pub number: u8,
+    pub request: DisconnectRequest,
 }
 
 pub struct DisconnectResponse {
@@ -110,9 +116,42 @@ impl DisconnectRequest {
             buf,
         )
     }
+
+    // A request that the gateway sent; its reserved byte is not looked at.
+    pub fn parse(data: &[u8]) -> DisconnectRequestAnswer
+        ensures { λ r. ⌜ DisconnectRequestParsePromise (now («data» .entry)) r ⌝ }
+    {
+        if data.len() < 10 {
+            return no_request(Refusal::BufferTooSmall.number());
+        }
+        let answer = Hpai::parse(&data[2..10]);
+        if answer.number != 0 {
+            return no_request(answer.number);
+        }
+        let control_endpoint = answer.hpai;
+        let request = DisconnectRequest {
+            channel_id: data[0],
+            control_endpoint,
+        };
+        DisconnectRequestAnswer { number: 0, request }
+    }
 }
 
 impl DisconnectResponse {
+    pub fn new(channel_id: u8, status: u8) -> DisconnectResponse
+        ensures { λ r. ⌜ DisconnectResponseNewPromise «channel_id» status r ⌝ }
+    {
+        DisconnectResponse { channel_id, status }
+    }
+
+    // The answer that a gateway's disconnect request is owed.
+    pub fn build(self, buf: &mut [u8]) -> Written
+        ensures { λ r. ⌜ DisconnectResponseBuildPromise self (now (buf .entry)) r (now (buf .exit)) ⌝ }
+    {
+        let body = [self.channel_id, self.status];
+        frame::write_frame(ServiceType::DisconnectResponse, &body, buf)
+    }
+
     pub fn parse(data: &[u8]) -> DisconnectAnswer
         ensures { λ r. ⌜ DisconnectParsePromise (now («data» .entry)) r ⌝ }
     {
@@ -157,4 +196,20 @@ fn read_status(data: &[u8]) -> StatusAnswer
         channel_id: data[0],
         status: data[1],
     })
+}
+
+fn no_request(number: u8) -> DisconnectRequestAnswer
+    ensures { λ r. ⌜ NoRequestPromise number r ⌝ }
+{
+    let control_endpoint = Hpai {
+        structure_length: 0,
+        host_protocol: 0,
+        ip_address: [0, 0, 0, 0],
+        port: 0,
+    };
+    let request = DisconnectRequest {
+        channel_id: 0,
+        control_endpoint,
+    };
+    DisconnectRequestAnswer { number, request }
 }

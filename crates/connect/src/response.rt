@@ -1,5 +1,6 @@
 // The answer to a connect request. It holds arrays, so a struct has the number beside it.
-ghost use Rattle.connect.specs.Response.{ParsePromise, IsOkPromise, RefusedPromise};
+ghost use Rattle.connect.specs.Response.{ParsePromise, ParseStandardPromise, IsOkPromise, IndividualAddressPromise, RefusedPromise, BarePromise};
+use address::IndividualAddress;
 use hpai::Hpai;
 use wire::Refusal;
 
@@ -41,15 +42,48 @@ impl ConnectResponse {
         }
     }
 
+    // In KNX's own form a response that refuses ends behind its status.
+    pub fn parse_standard(data: &[u8]) -> ConnectResponseAnswer
+        ensures { λ r. ⌜ ParseStandardPromise (now («data» .entry)) r ⌝ }
+    {
+        if data.len() < 2 {
+            return refused(Refusal::BufferTooSmall.number());
+        }
+        if data[1] == 0 {
+            return ConnectResponse::parse(data);
+        }
+        let response = bare(data[0], data[1]);
+        ConnectResponseAnswer {
+            number: 0,
+            response,
+        }
+    }
+
     pub fn is_ok(self) -> bool
         ensures { λ r. ⌜ IsOkPromise self r ⌝ }
     {
         self.status == 0
     }
+
+    // The address that the gateway gave us on the bus, of a tunnel that it opened.
+    pub fn individual_address(self) -> IndividualAddress
+        ensures { λ r. ⌜ IndividualAddressPromise self r ⌝ }
+    {
+        let crd = self.crd;
+        IndividualAddress::from_u16(wire::word_at(&crd, 2))
+    }
 }
 
 fn refused(number: u8) -> ConnectResponseAnswer
     ensures { λ r. ⌜ RefusedPromise number r ⌝ }
+{
+    let response = bare(0, 0);
+    ConnectResponseAnswer { number, response }
+}
+
+// Channel and status alone, and zeros.
+fn bare(channel_id: u8, status: u8) -> ConnectResponse
+    ensures { λ r. ⌜ BarePromise «channel_id» status r ⌝ }
 {
     let data_endpoint = Hpai {
         structure_length: 0,
@@ -57,11 +91,10 @@ fn refused(number: u8) -> ConnectResponseAnswer
         ip_address: [0, 0, 0, 0],
         port: 0,
     };
-    let response = ConnectResponse {
-        channel_id: 0,
-        status: 0,
+    ConnectResponse {
+        channel_id,
+        status,
         data_endpoint,
         crd: [0, 0, 0, 0],
-    };
-    ConnectResponseAnswer { number, response }
+    }
 }

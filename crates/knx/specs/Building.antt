@@ -11,7 +11,7 @@ use Rattle.pci.specs.Transport.{kindOf, sequenceOf}
 use Rattle.pci.specs.PciLaws.{tpciOf}
 use Rattle.ldata.specs.Builder as LDataBuilder
 use Rattle.ldata.specs.declared.count.Counting.{Counting}
-use Rattle.ldata.specs.declared.count.Counting.the-variants.{Standard}
+use Rattle.ldata.specs.declared.count.Counting.the-variants as Counting
 use Rattle.ldata.specs.declared.builder.LDataBuilder.{LDataBuilder}
 use Rattle.hpai.specs.Hpai as Hpai
 use Rattle.hpai.specs.declared.Hpai.{Hpai}
@@ -21,8 +21,12 @@ use Rattle.connect.specs.Channel as Channel
 use Rattle.connect.specs.declared.request.ConnectRequest.{ConnectRequest}
 use Rattle.connect.specs.declared.channel.ConnectionStateRequest.{ConnectionStateRequest}
 use Rattle.connect.specs.declared.channel.DisconnectRequest.{DisconnectRequest}
+use Rattle.connect.specs.declared.channel.DisconnectResponse.{DisconnectResponse}
 use Rattle.tunnelling.specs.Request as TunnelingRequest
 use Rattle.tunnelling.specs.Ack as TunnelingAck
+use Rattle.tunnelling.specs.AckForm as AckForm
+use Rattle.tunnelling.specs.declared.form.Form.{Form}
+use Rattle.tunnelling.specs.declared.form.Form.the-variants.{Standard}
 use Rattle.tunnelling.specs.declared.request.TunnelingRequest.{TunnelingRequest}
 use Rattle.tunnelling.specs.declared.ack.TunnelingAck.{TunnelingAck}
 use Rattle.knx.specs.declared.building.KnxWritten.{KnxWritten}
@@ -63,7 +67,7 @@ LDataBuildInPromise c control-1 control-2 source destination tpci code six «dat
 
 abbrev pub LDataBuildStandardPromise : ℕ → ℕ → ℕ → ℕ → ℕ → ℕ → ℕ → List ℕ → List ℕ → KnxWritten → List ℕ → Type 0
 LDataBuildStandardPromise control-1 control-2 source destination tpci code six «data» b r after =
-    LDataBuildInPromise Standard control-1 control-2 source destination tpci code six «data» b r after
+    LDataBuildInPromise Counting.Standard control-1 control-2 source destination tpci code six «data» b r after
 
 -- an endpoint for IPv4 over UDP
 abbrev pub endpointOf : KnxEndpoint → Hpai
@@ -104,3 +108,16 @@ TunnelingRequestPromise channel sequence cemi b r after = Tells (TunnelingReques
 
 abbrev pub TunnelingAckPromise : ℕ → ℕ → ℕ → List ℕ → KnxWritten → List ℕ → Type 0
 TunnelingAckPromise channel sequence status b r after = Tells (TunnelingAck.BuildPromise (ackOf channel sequence status) b) r after
+
+-- the same in the form that is given
+abbrev pub TunnelingAckInPromise : Form → ℕ → ℕ → ℕ → List ℕ → KnxWritten → List ℕ → Type 0
+TunnelingAckInPromise f channel sequence status b r after = Tells (AckForm.BuildInPromise f (ackOf channel sequence status) b) r after
+
+abbrev pub TunnelingAckStandardPromise : ℕ → ℕ → ℕ → List ℕ → KnxWritten → List ℕ → Type 0
+TunnelingAckStandardPromise channel sequence status b r after = TunnelingAckInPromise Standard channel sequence status b r after
+
+abbrev pub responseOf : ℕ → ℕ → DisconnectResponse
+responseOf channel status = record { «channel_id» = channel; status = status }
+
+abbrev pub DisconnectResponseBuildPromise : ℕ → ℕ → List ℕ → KnxWritten → List ℕ → Type 0
+DisconnectResponseBuildPromise channel status b r after = Tells (Channel.DisconnectResponseBuildPromise (responseOf channel status) b) r after

@@ -21,9 +21,10 @@ use Rattle.connect.specs.Channel as Channel
 use Rattle.connect.specs.ChannelLaws as ChannelLaws
 use Rattle.tunnelling.specs.Request as TunnelingRequest
 use Rattle.tunnelling.specs.RequestLaws as TunnelingRequestLaws
-use Rattle.tunnelling.specs.Ack as TunnelingAck
+use Rattle.tunnelling.specs.AckForm as AckForm
+use Rattle.tunnelling.specs.declared.form.Form.{Form}
 use Rattle.tunnelling.specs.AckLaws as TunnelingAckLaws
-use Rattle.knx.specs.Building.{told, WrittenPromise, Tells, builderOf, endpointOf, connectOf, stateOf, disconnectOf, requestOf, ackOf, LDataBuildInPromise, ConnectRequestPromise, ConnectionStateRequestPromise, DisconnectRequestPromise, TunnelingRequestPromise, TunnelingAckPromise}
+use Rattle.knx.specs.Building.{told, WrittenPromise, Tells, builderOf, endpointOf, connectOf, stateOf, disconnectOf, requestOf, ackOf, LDataBuildInPromise, ConnectRequestPromise, ConnectionStateRequestPromise, DisconnectRequestPromise, TunnelingRequestPromise, TunnelingAckInPromise, responseOf, DisconnectResponseBuildPromise}
 use Rattle.knx.specs.declared.building.KnxEndpoint.{KnxEndpoint}
 use Rattle.knx.specs.declared.building.KnxWritten.{KnxWritten}
 
@@ -71,9 +72,11 @@ pub tunneling-request-one : (channel sequence : ℕ) (cemi b : List ℕ) (r q : 
     → TunnelingRequestPromise channel sequence cemi b r after → TunnelingRequestPromise channel sequence cemi b q later → (r ≡ q) × (after ≡ later)
 tunneling-request-one channel sequence cemi b = tells-one (TunnelingRequest.BuildPromise (requestOf channel sequence) cemi b) (TunnelingRequestLaws.build-one (requestOf channel sequence) cemi b)
 
-pub tunneling-ack-one : (channel sequence status : ℕ) (b : List ℕ) (r q : KnxWritten) (after later : List ℕ)
-    → TunnelingAckPromise channel sequence status b r after → TunnelingAckPromise channel sequence status b q later → (r ≡ q) × (after ≡ later)
-tunneling-ack-one channel sequence status b = tells-one (TunnelingAck.BuildPromise (ackOf channel sequence status) b) (TunnelingAckLaws.build-one (ackOf channel sequence status) b)
+pub tunneling-ack-one : (f : Form) (channel sequence status : ℕ) (b : List ℕ) → OneWritten (TunnelingAckInPromise f channel sequence status b)
+tunneling-ack-one f channel sequence status b = tells-one (AckForm.BuildInPromise f (ackOf channel sequence status) b) (TunnelingAckLaws.build-in-one f (ackOf channel sequence status) b)
+
+pub disconnect-response-one : (channel status : ℕ) (b : List ℕ) → OneWritten (DisconnectResponseBuildPromise channel status b)
+disconnect-response-one channel status b = tells-one (Channel.DisconnectResponseBuildPromise (responseOf channel status) b) (ChannelLaws.response-one (responseOf channel status) b)
 
 -- demand 1 of a builder is demand 1 of what is told
 pub tells-refusing : (P : Written → List ℕ → Type 0) (b : List ℕ)

@@ -8,7 +8,9 @@ use lib.Dec.{eqb}
 use Rattle.wire.specs.Told.{Told, refused}
 use Rattle.wire.specs.Writing.{leaves, room}
 use Rattle.wire.specs.declared.refusals.Refusal.{Refusal}
-use Rattle.tunnel_model.specs.Calls.{Call, Open, Close, Timeout, Send, Datagram}
+use Rattle.tunnelling.specs.declared.form.Form.{Form}
+use Rattle.tunnelling.specs.declared.form.Form.the-variants.{Standard}
+use Rattle.tunnel_model.specs.Calls.{Call, Open, Close, Timeout, Send, Datagram, DatagramIn}
 use Rattle.tunnel_model.specs.Table.{emptyOf}
 use Rattle.tunnel_table.specs.Places.{kind}
 use Rattle.tunnel_table.specs.Table as Table
@@ -40,6 +42,13 @@ SendPromise image id cemi before r after out = CallPromise image (Send id cemi b
 
 abbrev pub DatagramPromise : List ℕ → List ℕ → List ℕ → KnxCalled → List ℕ → List ℕ → Type 0
 DatagramPromise image bytes before r after out = CallPromise image (Datagram bytes before) r after out
+
+-- the same in the form of an acknowledgement that is given
+abbrev pub DatagramInPromise : Form → List ℕ → List ℕ → List ℕ → KnxCalled → List ℕ → List ℕ → Type 0
+DatagramInPromise f image bytes before r after out = CallPromise image (DatagramIn f bytes before) r after out
+
+abbrev pub DatagramStandardPromise : List ℕ → List ℕ → List ℕ → KnxCalled → List ℕ → List ℕ → Type 0
+DatagramStandardPromise image bytes before r after out = DatagramInPromise Standard image bytes before r after out
 
 -- the image of the empty table
 abbrev pub EmptyPromise : List ℕ → KnxWritten → List ℕ → Type 0

@@ -17,8 +17,9 @@ use Rattle.wire.specs.declared.refusals.Written.{Written}
 use Rattle.wire.specs.declared.refusals.Written.the-variants as Written
 use Rattle.wire.specs.Refusing.{Zeros}
 use Rattle.wire.specs.Writing.{onto, leaves, room}
-use Rattle.tunnel_model.specs.Calls.{Call, Datagram, Outcome, outOf}
-use Rattle.tunnel_datagram.specs.Hearing.{heardBy01}
+use Rattle.tunnelling.specs.declared.form.Form.{Form}
+use Rattle.tunnel_model.specs.Calls.{Call, DatagramIn, Outcome, outOf}
+use Rattle.tunnel_datagram.specs.Hearing.{heardIn}
 use Rattle.tunnel_datagram.specs.declared.hearing.Heard.the-variants as Heard
 use Rattle.tunnel_table.specs.TableLaws.{step-heard}
 use Rattle.tunnel_table.specs.Table as Table
@@ -42,11 +43,11 @@ pub small-call : (image : List ℕ) (c : Call) (r : KnxCalled) → length image 
 small-call image c r h p = ap (λ (t : Told). ((t, outOf c), image)) p ∙ sym (on-small image c h)
 
 -- a datagram that is refused by its bytes alone
-pub unheard-call : (image bytes out : List ℕ) (e : Refusal) (r : KnxCalled) → 40 ≤ length image → heardBy01 bytes ≡ Heard.Refused e → RefusedPromise e r → CallPromise image (Datagram bytes out) r image out
-unheard-call image bytes out e r enough h p =
+pub unheard-call : (f : Form) (image bytes out : List ℕ) (e : Refusal) (r : KnxCalled) → 40 ≤ length image → heardIn f bytes ≡ Heard.Refused e → RefusedPromise e r → CallPromise image (DatagramIn f bytes out) r image out
+unheard-call f image bytes out e r enough h p =
     ap (λ (t : Told). ((t, out), image)) p
     ∙ ap (λ (b : Bool). ((refused 2 e, out), cond b (onto image (packed (unpacked image))) image)) (sym (ne-eqb (numberOf e) 0 (never-done e)))
-    ∙ ap (packedOnto image) (step-heard (unpacked image) bytes out (Heard.Refused e) h) ∙ sym (on-enough image (Datagram bytes out) enough)
+    ∙ ap (packedOnto image) (step-heard f (unpacked image) bytes out (Heard.Refused e) h) ∙ sym (on-enough image (DatagramIn f bytes out) enough)
 
 -- the image is unpacked, the table is called, and what it gave is kept
 pub packed-call : (image : List ℕ) (c : Call) (t : Table) (q : Called) (out : List ℕ) (r : KnxCalled) (after : List ℕ) → 40 ≤ length image

@@ -59,3 +59,11 @@ responseAnswer r = record {
 
 abbrev pub ConnectResponsePromise : List ℕ → KnxConnectResponse → Type 0
 ConnectResponsePromise s r = ConnectResponse.ParsePromise s (responseAnswer r)
+
+-- in KNX's own form
+abbrev pub ConnectResponseStandardPromise : List ℕ → KnxConnectResponse → Type 0
+ConnectResponseStandardPromise s r = ConnectResponse.ParseStandardPromise s (responseAnswer r)
+
+-- our own individual address, in the connection response data
+abbrev pub OwnAddressPromise : KnxConnectResponse → ℕ → Type 0
+OwnAddressPromise c r = ConnectResponse.IndividualAddressPromise (responseAnswer c .response) (record { 0 = r })

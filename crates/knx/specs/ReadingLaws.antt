@@ -12,6 +12,7 @@ use Rattle.wire.specs.Parts as Parts
 use Rattle.wire.specs.declared.refusals.Verdict.{Verdict}
 use Rattle.wire.specs.declared.refusals.Verdict.the-variants.{Accept, Refuse}
 use Rattle.wire.specs.declared.parts.View.{View}
+use Rattle.address.specs.declared.IndividualAddress.{IndividualAddress}
 use Rattle.header.specs.Header.{fields, values, serviceIn, totalIn}
 use Rattle.frame.specs.Frame as Frame
 use Rattle.frame.specs.Judging as Judging
@@ -22,7 +23,7 @@ use Rattle.hpai.specs.HpaiLaws as HpaiLaws
 use Rattle.hpai.specs.declared.HpaiAnswer.{HpaiAnswer}
 use Rattle.connect.specs.ResponseLaws as ConnectResponseLaws
 use Rattle.connect.specs.declared.response.ConnectResponseAnswer.{ConnectResponseAnswer}
-use Rattle.knx.specs.Reading.{bodyStart, toldFrame, frameIn, frameBy01, FramePromise, hpaiAnswer, HpaiPromise, responseAnswer, ConnectResponsePromise}
+use Rattle.knx.specs.Reading.{bodyStart, toldFrame, frameIn, frameBy01, FramePromise, hpaiAnswer, HpaiPromise, responseAnswer, ConnectResponsePromise, ConnectResponseStandardPromise, OwnAddressPromise}
 use Rattle.knx.specs.declared.reading.KnxFrame.{KnxFrame}
 use Rattle.knx.specs.declared.reading.KnxHpai.{KnxHpai}
 use Rattle.knx.specs.declared.reading.KnxConnectResponse.{KnxConnectResponse}
@@ -63,10 +64,18 @@ hpai-one s r q a b = ap hpaiFrom (HpaiLaws.parse-one s (hpaiAnswer r) (hpaiAnswe
     hpaiFrom : HpaiAnswer → KnxHpai
     hpaiFrom x = record { «structure_length» = x .hpai .«structure_length»; «host_protocol» = x .hpai .«host_protocol»; address = x .hpai .«ip_address»; port = x .hpai .port; number = x .number }
 
+responseFrom : ConnectResponseAnswer → KnxConnectResponse
+responseFrom x =
+    let e = x .response .«data_endpoint» in
+    record { channel = x .response .«channel_id»; status = x .response .status; «structure_length» = e .«structure_length»; «host_protocol» = e .«host_protocol»; address = e .«ip_address»; port = e .port; crd = x .response .crd; number = x .number }
+
 pub connect-response-one : (s : List ℕ) (r q : KnxConnectResponse) → ConnectResponsePromise s r → ConnectResponsePromise s q → r ≡ q
+unfolding responseFrom
 connect-response-one s r q a b = ap responseFrom (ConnectResponseLaws.parse-one s (responseAnswer r) (responseAnswer q) a b)
-  where
-    responseFrom : ConnectResponseAnswer → KnxConnectResponse
-    responseFrom x =
-        let e = x .response .«data_endpoint» in
-        record { channel = x .response .«channel_id»; status = x .response .status; «structure_length» = e .«structure_length»; «host_protocol» = e .«host_protocol»; address = e .«ip_address»; port = e .port; crd = x .response .crd; number = x .number }
+
+pub connect-response-standard-one : (s : List ℕ) (r q : KnxConnectResponse) → ConnectResponseStandardPromise s r → ConnectResponseStandardPromise s q → r ≡ q
+unfolding responseFrom
+connect-response-standard-one s r q a b = ap responseFrom (ConnectResponseLaws.parse-standard-one s (responseAnswer r) (responseAnswer q) a b)
+
+pub own-address-one : (c : KnxConnectResponse) (r q : ℕ) → OwnAddressPromise c r → OwnAddressPromise c q → r ≡ q
+own-address-one c r q a b = ap (λ (x : IndividualAddress). x .0) (same a b)

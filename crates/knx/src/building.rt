@@ -1,10 +1,11 @@
 // Building: L_Data and the requests, each into a lent buffer.
 ghost use mathlib.Core.Path.{_≡_};
-ghost use Rattle.knx.specs.Building.{endpointOf, WrittenPromise, LDataBuildPromise, LDataBuildStandardPromise, LDataBuildInPromise, ConnectRequestPromise, ConnectionStateRequestPromise, DisconnectRequestPromise, TunnelingRequestPromise, TunnelingAckPromise};
+ghost use Rattle.knx.specs.Building.{endpointOf, WrittenPromise, LDataBuildPromise, LDataBuildStandardPromise, LDataBuildInPromise, ConnectRequestPromise, ConnectionStateRequestPromise, DisconnectRequestPromise, TunnelingRequestPromise, TunnelingAckPromise, TunnelingAckStandardPromise, TunnelingAckInPromise, DisconnectResponseBuildPromise};
 use address::IndividualAddress;
 use connect::ConnectRequest;
 use connect::ConnectionStateRequest;
 use connect::DisconnectRequest;
+use connect::DisconnectResponse;
 use control::ControlField1;
 use control::ControlField2;
 use hpai::Hpai;
@@ -12,6 +13,7 @@ use ldata::Counting;
 use ldata::LDataBuilder;
 use pci::Tpci;
 use tunnelling::ConnectionHeader;
+use tunnelling::Form;
 use tunnelling::TunnelingAck;
 use tunnelling::TunnelingRequest;
 use wire::Written;
@@ -145,8 +147,40 @@ pub extern "C" fn knx_tunneling_ack(
 ) -> KnxWritten
     ensures { λ r. ⌜ TunnelingAckPromise channel sequence status (now (out .entry)) r (now (out .exit)) ⌝ }
 {
+    tunneling_ack_in(Form::Crate, channel, sequence, status, out)
+}
+
+// In KNX's own form.
+#[no_mangle]
+pub extern "C" fn knx_tunneling_ack_standard(
+    channel: u8,
+    sequence: u8,
+    status: u8,
+    out: &mut [u8],
+) -> KnxWritten
+    ensures { λ r. ⌜ TunnelingAckStandardPromise channel sequence status (now (out .entry)) r (now (out .exit)) ⌝ }
+{
+    tunneling_ack_in(Form::Standard, channel, sequence, status, out)
+}
+
+// The answer to a disconnect request that the gateway sent.
+#[no_mangle]
+pub extern "C" fn knx_disconnect_response_build(
+    channel: u8,
+    status: u8,
+    out: &mut [u8],
+) -> KnxWritten
+    ensures { λ r. ⌜ DisconnectResponseBuildPromise channel status (now (out .entry)) r (now (out .exit)) ⌝ }
+{
+    let response = DisconnectResponse::new(channel, status);
+    written(response.build(out))
+}
+
+fn tunneling_ack_in(form: Form, channel: u8, sequence: u8, status: u8, out: &mut [u8]) -> KnxWritten
+    ensures { λ r. ⌜ TunnelingAckInPromise form channel sequence status (now (out .entry)) r (now (out .exit)) ⌝ }
+{
     let ack = TunnelingAck::new(ConnectionHeader::new(channel, sequence), status);
-    written(ack.build(out))
+    written(ack.build_in(form, out))
 }
 
 // The TPCI is given by its byte, whose low two bits are not looked at.

@@ -1,10 +1,11 @@
 // The calls on a table of eight tunnels, over the byte image that the host lends.
-ghost use Rattle.knx.specs.Called.{KeepPromise, EmptyPromise, RefusedPromise, OpenPromise, ClosePromise, TimeoutPromise, SendPromise, DatagramPromise};
+ghost use Rattle.knx.specs.Called.{KeepPromise, EmptyPromise, RefusedPromise, OpenPromise, ClosePromise, TimeoutPromise, SendPromise, DatagramPromise, DatagramStandardPromise, DatagramInPromise};
 use crate::building;
 use crate::building::KnxWritten;
 use tunnel_datagram::Heard;
 use tunnel_table::Called;
 use tunnel_table::Table;
+use tunnelling::Form;
 use wire::Refusal;
 
 // A number of 01 and, beside 0, what is said, the view and the count of bytes written to the output.
@@ -66,19 +67,40 @@ pub extern "C" fn knx_table_send(image: &mut [u8], id: u8, cemi: &[u8], out: &mu
     keep(tunnel_image::unpack(image).send(id, cemi, out), image)
 }
 
-// A datagram that is refused by its bytes alone needs no table.
 #[no_mangle]
 pub extern "C" fn knx_table_datagram(image: &mut [u8], bytes: &[u8], out: &mut [u8]) -> KnxCalled
     ensures { λ r. ⌜ DatagramPromise (now (image .entry)) (now (bytes .entry)) (now (out .entry)) r (now (image .exit)) (now (out .exit)) ⌝ }
 {
+    table_datagram_in(Form::Crate, image, bytes, out)
+}
+
+// With acknowledgements in KNX's own form, both ways.
+#[no_mangle]
+pub extern "C" fn knx_table_datagram_standard(
+    image: &mut [u8],
+    bytes: &[u8],
+    out: &mut [u8],
+) -> KnxCalled
+    ensures { λ r. ⌜ DatagramStandardPromise (now (image .entry)) (now (bytes .entry)) (now (out .entry)) r (now (image .exit)) (now (out .exit)) ⌝ }
+{
+    table_datagram_in(Form::Standard, image, bytes, out)
+}
+
+// A datagram that is refused by its bytes alone needs no table.
+fn table_datagram_in(form: Form, image: &mut [u8], bytes: &[u8], out: &mut [u8]) -> KnxCalled
+    ensures { λ r. ⌜ DatagramInPromise form (now (image .entry)) (now (bytes .entry)) (now (out .entry)) r (now (image .exit)) (now (out .exit)) ⌝ }
+{
     if image.len() < tunnel_image::SIZE {
         return refused(Refusal::BufferTooSmall);
     }
-    let heard = tunnel_datagram::hear(bytes);
+    let heard = tunnel_datagram::hear_in(form, bytes);
     if let Heard::Refused(why) = heard {
         return refused(why);
     }
-    keep(tunnel_image::unpack(image).heard(heard, out), image)
+    keep(
+        tunnel_image::unpack(image).heard_in(form, heard, out),
+        image,
+    )
 }
 
 // What a call on the table gave, as numbers; the table is packed again unless the call was refused.

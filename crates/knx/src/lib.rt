@@ -2,6 +2,7 @@
 mod building;
 mod called;
 mod cemi_ldata;
+mod channel;
 mod info;
 mod reading;
 
@@ -9,6 +10,8 @@ pub use building::KnxEndpoint;
 pub use building::KnxWritten;
 pub use called::KnxCalled;
 pub use cemi_ldata::KnxLData;
+pub use channel::KnxDisconnectRequest;
+pub use channel::KnxStatus;
 pub use info::KnxAdditionalInfo;
 pub use info::KnxCount;
 pub use info::KnxPart;

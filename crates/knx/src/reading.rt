@@ -1,7 +1,8 @@
-// Reading: a frame, an Hpai, a connect response.
+// Reading: a frame, an Hpai, a connect response, and our own address in it.
 ghost use mathlib.Core.Path.{_≡_};
-ghost use Rattle.knx.specs.Reading.{bodyStart, FramePromise, HpaiPromise, ConnectResponsePromise};
+ghost use Rattle.knx.specs.Reading.{bodyStart, FramePromise, HpaiPromise, ConnectResponsePromise, ConnectResponseStandardPromise, responseAnswer, OwnAddressPromise};
 use connect::ConnectResponse;
+use connect::ConnectResponseAnswer;
 use hpai::Hpai;
 
 // A number of 01 and, beside 0, where the body stands, the service and the total length.
@@ -78,7 +79,29 @@ pub extern "C" fn knx_hpai_parse(data: &[u8]) -> KnxHpai
 pub extern "C" fn knx_connect_response(body: &[u8]) -> KnxConnectResponse
     ensures { λ r. ⌜ ConnectResponsePromise (now (body .entry)) r ⌝ }
 {
-    let answer = ConnectResponse::parse(body);
+    response_as(ConnectResponse::parse(body))
+}
+
+// In KNX's own form, in which a response that refuses ends behind its status.
+#[no_mangle]
+pub extern "C" fn knx_connect_response_standard(body: &[u8]) -> KnxConnectResponse
+    ensures { λ r. ⌜ ConnectResponseStandardPromise (now (body .entry)) r ⌝ }
+{
+    response_as(ConnectResponse::parse_standard(body))
+}
+
+// Our own individual address, which the gateway gave us with the channel.
+#[no_mangle]
+pub extern "C" fn knx_own_address(response: KnxConnectResponse) -> u16
+    ensures { λ r. ⌜ OwnAddressPromise response r ⌝ }
+{
+    let crd = response.crd;
+    wire::word_at(&crd, 2)
+}
+
+fn response_as(answer: ConnectResponseAnswer) -> KnxConnectResponse
+    ensures { λ r. ⌜ responseAnswer r ≡ answer ⌝ }
+{
     let response = answer.response;
     let endpoint = response.data_endpoint;
     let address = endpoint.ip_address;

@@ -1,7 +1,8 @@
-// The calls of services.rs that connect, keep alive and disconnect, 12 to 21.
+// The calls of services.rs that connect, keep alive and disconnect, 12 to 21, and those of a session with a real gateway, 73 to 75.
 use crate::hpai_calls;
 use connect::ConnectRequest;
 use connect::ConnectResponse;
+use connect::ConnectResponseAnswer;
 use connect::ConnectionRequestInfo;
 use connect::ConnectionRequestInfoAnswer;
 use connect::ConnectionStateAnswer;
@@ -57,8 +58,7 @@ pub(crate) fn connect_build(args: &[u8], buf: &mut [u8]) -> Told {
 }
 
 // The seven values of the Hpai, then channel, status, crd and is_ok.
-pub(crate) fn connect_response(args: &[u8]) -> Told {
-    let r = ConnectResponse::parse(args);
+fn response(r: ConnectResponseAnswer) -> Told {
     let c = r.response;
     let h = c.data_endpoint;
     let crd = c.crd;
@@ -73,6 +73,20 @@ pub(crate) fn connect_response(args: &[u8]) -> Told {
     if r.number == 0 {
         t.values[13] = replay::flag(c.is_ok());
     }
+    t
+}
+
+pub(crate) fn connect_response(args: &[u8]) -> Told {
+    response(ConnectResponse::parse(args))
+}
+
+// And our own individual address behind them.
+pub(crate) fn standard_response(args: &[u8]) -> Told {
+    let r = ConnectResponse::parse_standard(args);
+    let c = r.response;
+    let mut t = response(r);
+    t.count = 15;
+    t.values[14] = c.individual_address().to_u16() as usize;
     t
 }
 
@@ -110,4 +124,28 @@ pub(crate) fn disconnect_parse(args: &[u8]) -> Told {
         DisconnectAnswer::Response(c) => status(c.channel_id, c.status, c.is_ok()),
         DisconnectAnswer::Refused(why) => replay::refused(why, 3),
     }
+}
+
+// The channel, and the seven values of the Hpai behind it.
+pub(crate) fn disconnect_request_parse(args: &[u8]) -> Told {
+    let r = DisconnectRequest::parse(args);
+    let q = r.request;
+    let h = q.control_endpoint;
+    let mut t = hpai_calls::told(r.number, h);
+    let seven = t.values;
+    t.count = 8;
+    t.values[0] = q.channel_id as usize;
+    t.values[1] = seven[0];
+    t.values[2] = seven[1];
+    t.values[3] = seven[2];
+    t.values[4] = seven[3];
+    t.values[5] = seven[4];
+    t.values[6] = seven[5];
+    t.values[7] = seven[6];
+    t
+}
+
+pub(crate) fn disconnect_response_build(args: &[u8], buf: &mut [u8]) -> Told {
+    let response = DisconnectResponse::new(wire::byte_at(args, 0), wire::byte_at(args, 1));
+    replay::written(response.build(buf))
 }

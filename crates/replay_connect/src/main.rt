@@ -1,5 +1,5 @@
 // Replays recorded calls of services.rs that connect, keep alive and disconnect, and of an Hpai, as compare/README.md lays them out, and writes a line for what each told:
-// what the Rust answers to the same records is beside it, in `stdout` for the fixed sample.
+// what the Rust answers to the same records, or for calls that it does not have an independent reference, is beside it, in `stdout` for the fixed sample.
 mod connect_calls;
 mod hpai_calls;
 
@@ -26,6 +26,9 @@ fn connect_answer(call: u8, args: &[u8], buf: &mut [u8]) -> Told {
         19 => connect_calls::state_parse(args),
         20 => connect_calls::disconnect_build(args, buf),
         21 => connect_calls::disconnect_parse(args),
+        73 => connect_calls::standard_response(args),
+        74 => connect_calls::disconnect_request_parse(args),
+        75 => connect_calls::disconnect_response_build(args, buf),
         _ => replay::few(0, [0; 4]),
     }
 }

@@ -1,4 +1,4 @@
-// The calls on a table of tunnels, 46 to 51: the table is carried from record to record.
+// The calls on a table of tunnels, 46 to 51, and 76, a datagram in KNX's own form: the table is carried from record to record.
 use replay::Told;
 use tunnel::Said;
 use tunnel::Tunnel;
@@ -7,6 +7,7 @@ use tunnel_table::Called;
 use tunnel_table::Hold;
 use tunnel_table::Place;
 use tunnel_table::Table;
+use tunnelling::Form;
 
 // What a call told, and the table after it.
 pub(crate) struct Carried {
@@ -23,6 +24,7 @@ pub(crate) fn answer(call: u8, args: &[u8], buf: &mut [u8], table: Table) -> Car
         49 => called(table.timeout(id), false),
         50 => called(table.send(id, wire::part(args, 1, args.len()), buf), true),
         51 => called(table.datagram(args, buf), true),
+        76 => called(table.datagram_in(Form::Standard, args, buf), true),
         _ => Carried {
             told: replay::few(0, [0; 4]),
             table,

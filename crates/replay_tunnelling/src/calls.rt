@@ -1,7 +1,8 @@
-// The calls of services.rs that tunnel, 22 to 27.
+// The calls of services.rs that tunnel, 22 to 27, and an acknowledgement in KNX's own form, 71 and 72.
 use replay::Told;
 use tunnelling::ConnectionHeader;
 use tunnelling::ConnectionHeaderAnswer;
+use tunnelling::Form;
 use tunnelling::TunnelingAck;
 use tunnelling::TunnelingAckAnswer;
 use tunnelling::TunnelingRequest;
@@ -15,6 +16,8 @@ pub(crate) fn answer(call: u8, args: &[u8], buf: &mut [u8]) -> Told {
         25 => request_parse(args),
         26 => ack_build(args, buf),
         27 => ack_parse(args),
+        71 => standard_ack_build(args, buf),
+        72 => standard_ack_parse(args),
         _ => replay::few(0, [0; 4]),
     }
 }
@@ -53,24 +56,36 @@ fn request(q: TunnelingRequest, args: &[u8]) -> Told {
     t
 }
 
+fn ack_at(args: &[u8]) -> TunnelingAck {
+    TunnelingAck::new(header_at(args), wire::byte_at(args, 2))
+}
+
 fn ack_build(args: &[u8], buf: &mut [u8]) -> Told {
-    replay::written(TunnelingAck::new(header_at(args), wire::byte_at(args, 2)).build(buf))
+    replay::written(ack_at(args).build(buf))
 }
 
 fn ack_parse(args: &[u8]) -> Told {
-    match TunnelingAck::parse(args) {
-        TunnelingAckAnswer::Ack(a) => ack(a),
-        TunnelingAckAnswer::Refused(why) => replay::refused(why, 4),
-    }
+    ack(TunnelingAck::parse(args))
 }
 
-fn ack(a: TunnelingAck) -> Told {
-    told(
-        a.connection_header,
-        4,
-        a.status as usize,
-        replay::flag(a.is_ok()),
-    )
+fn standard_ack_build(args: &[u8], buf: &mut [u8]) -> Told {
+    replay::written(ack_at(args).build_in(Form::Standard, buf))
+}
+
+fn standard_ack_parse(args: &[u8]) -> Told {
+    ack(TunnelingAck::parse_in(Form::Standard, args))
+}
+
+fn ack(answer: TunnelingAckAnswer) -> Told {
+    match answer {
+        TunnelingAckAnswer::Ack(a) => told(
+            a.connection_header,
+            4,
+            a.status as usize,
+            replay::flag(a.is_ok()),
+        ),
+        TunnelingAckAnswer::Refused(why) => replay::refused(why, 4),
+    }
 }
 
 // Channel and sequence, and two values behind them.

@@ -1,4 +1,4 @@
--- 01, "Datagram": frame refusals, then 12 unless the service is 0x0420 or 0x0421, then body refusals. Reserved bytes and the connection header's length byte are not looked at. Assumes nothing.
+-- 01, "Datagram": frame refusals, then 12 unless the service is 0x0420 or 0x0421, then body refusals. Reserved bytes and the connection header's length byte are not looked at. An acknowledgement is read in the form that is given; 01's is the crate's. Assumes nothing.
 use Prim.Native.Nat.{ℕ, _+_}
 use mathlib.Core.Path.{_≡_}
 use mathlib.Core.Bool.{cond}
@@ -18,7 +18,10 @@ use Rattle.header.specs.Header.{fields, serviceIn, totalIn}
 use Rattle.frame.specs.Frame as Frame
 use Rattle.tunnelling.specs.Connection as Connection
 use Rattle.tunnelling.specs.Request as TunnelingRequest
-use Rattle.tunnelling.specs.Ack as TunnelingAck
+use Rattle.tunnelling.specs.AckForm.{formBy}
+use Rattle.tunnelling.specs.AckForm as AckForm
+use Rattle.tunnelling.specs.declared.form.Form.{Form}
+use Rattle.tunnelling.specs.declared.form.Form.the-variants.{Crate}
 use Rattle.tunnel_datagram.specs.declared.hearing.Heard.{Heard}
 use Rattle.tunnel_datagram.specs.declared.hearing.Heard.the-variants.{Request, Ack, Refused}
 
@@ -49,22 +52,28 @@ requestOf valuesIn end = Request (channelIn valuesIn) (numberIn valuesIn) end
 abbrev pub ackOf : List ℕ → Heard
 ackOf valuesIn = Ack (channelIn valuesIn) (numberIn valuesIn) (getD valuesIn 2 0)
 
--- a request's body needs 4 bytes, an acknowledgement's 5
+-- a request's body needs 4 bytes, an acknowledgement's 5 in the crate's form and 4 in KNX's
 abbrev pub requestIn : List ℕ → ℕ → Heard
 requestIn body end = heardOr (verdict (Connection.checks (length body))) (requestOf (Connection.valuesIn (get Connection.fields 0 body)) end)
 
-abbrev pub ackIn : List ℕ → Heard
-ackIn body = heardOr (verdict (TunnelingAck.checks (length body))) (ackOf (TunnelingAck.valuesIn (get TunnelingAck.fields 0 body)))
+abbrev pub ackIn : Form → List ℕ → Heard
+ackIn f body = heardOr (verdict (AckForm.checks (formBy f) (length body))) (ackOf (AckForm.valuesIn (formBy f) (get (formBy f .fields) 0 body)))
 
 -- in an accepted frame of this service, total length and body
-abbrev pub inFrame : ℕ → ℕ → List ℕ → Heard
-inFrame service total body =
+abbrev pub inFrame : Form → ℕ → ℕ → List ℕ → Heard
+inFrame f service total body =
     cond (eqb service (codeOf TunnellingRequest)) (requestIn body total)
-    (cond (eqb service (codeOf TunnellingAck)) (ackIn body) (Refused NotForTunnels))
+    (cond (eqb service (codeOf TunnellingAck)) (ackIn f body) (Refused NotForTunnels))
+
+abbrev pub heardIn : Form → List ℕ → Heard
+heardIn f s =
+    heardOr (verdict (Frame.checks (length s) (get fields 0 s))) (inFrame f (serviceIn (get fields 0 s)) (totalIn (get fields 0 s)) (partOf s 6 (totalIn (get fields 0 s))))
+
+abbrev pub HearInPromise : Form → List ℕ → Heard → Type 0
+HearInPromise f s r = told r ≡ told (heardIn f s)
 
 abbrev pub heardBy01 : List ℕ → Heard
-heardBy01 s =
-    heardOr (verdict (Frame.checks (length s) (get fields 0 s))) (inFrame (serviceIn (get fields 0 s)) (totalIn (get fields 0 s)) (partOf s 6 (totalIn (get fields 0 s))))
+heardBy01 s = heardIn Crate s
 
 abbrev pub HearPromise : List ℕ → Heard → Type 0
 HearPromise s r = told r ≡ told (heardBy01 s)

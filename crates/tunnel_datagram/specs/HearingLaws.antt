@@ -1,4 +1,4 @@
--- What is heard goes on from the frame's parse and the body's; no second answer. Assumes nothing.
+-- What is heard goes on from the frame's parse and the body's, in either form; no second answer. Assumes nothing.
 use Prim.Native.Nat.{ℕ}
 use mathlib.Core.Path.{_≡_, refl, sym, ap, _∙_}
 use mathlib.Core.Bool.{cond}
@@ -21,11 +21,15 @@ use Rattle.frame.specs.declared.frame.FrameAnswer.the-variants as FrameAnswer
 use Rattle.tunnelling.specs.Connection as Connection
 use Rattle.tunnelling.specs.Request as TunnelingRequest
 use Rattle.tunnelling.specs.Ack as TunnelingAck
+use Rattle.tunnelling.specs.AckForm.{formBy}
+use Rattle.tunnelling.specs.AckForm as AckForm
+use Rattle.tunnelling.specs.declared.form.Form.{Form}
+use Rattle.tunnelling.specs.declared.form.Form.the-variants.{Crate}
 use Rattle.tunnelling.specs.declared.request.TunnelingRequest.{TunnelingRequest}
 use Rattle.tunnelling.specs.declared.request.TunnelingRequestAnswer.the-variants as TunnelingRequestAnswer
 use Rattle.tunnelling.specs.declared.ack.TunnelingAck.{TunnelingAck}
 use Rattle.tunnelling.specs.declared.ack.TunnelingAckAnswer.the-variants as TunnelingAckAnswer
-use Rattle.tunnel_datagram.specs.Hearing.{told, heardOr, requestOf, ackOf, requestIn, ackIn, inFrame, heardBy01, HearPromise}
+use Rattle.tunnel_datagram.specs.Hearing.{told, heardOr, requestOf, ackOf, requestIn, ackIn, inFrame, heardIn, HearPromise, HearInPromise}
 use Rattle.tunnel_datagram.specs.declared.hearing.Heard.{Heard}
 use Rattle.tunnel_datagram.specs.declared.hearing.Heard.the-variants.{Request, Ack, Refused}
 
@@ -51,34 +55,36 @@ not-requested body end e p =
     let valuesIn : List ℕ = Connection.valuesIn (get Connection.fields 0 body) in
     refuses (Connection.checks (length body)) (done valuesIn) 2 e (requestOf valuesIn end) refl p
 
-pub acked : (body : List ℕ) (a : TunnelingAck) → TunnelingAck.ParsePromise body (TunnelingAckAnswer.Ack a)
-    → Ack (a .«connection_header» .«channel_id») (a .«connection_header» .«sequence_counter») (a .status) ≡ ackIn body
-acked body a p =
-    let valuesIn : List ℕ = TunnelingAck.valuesIn (get TunnelingAck.fields 0 body) in
-    let cs : List Check = TunnelingAck.checks (length body) in
-    ap (λ (t : Told). ackOf (t .values)) (let-through cs (done valuesIn) (TunnelingAck.told (TunnelingAckAnswer.Ack a)) refl p) ∙ passes cs (done valuesIn) (TunnelingAck.told (TunnelingAckAnswer.Ack a)) (ackOf valuesIn) refl p
+-- in the form that is given
+module _ (f : Form) where
+  pub acked : (body : List ℕ) (a : TunnelingAck) → AckForm.ParseInPromise f body (TunnelingAckAnswer.Ack a)
+      → Ack (a .«connection_header» .«channel_id») (a .«connection_header» .«sequence_counter») (a .status) ≡ ackIn f body
+  acked body a p =
+      let valuesIn : List ℕ = AckForm.valuesIn (formBy f) (get (formBy f .fields) 0 body) in
+      let cs : List Check = AckForm.checks (formBy f) (length body) in
+      ap (λ (t : Told). ackOf (t .values)) (let-through cs (done valuesIn) (TunnelingAck.told (TunnelingAckAnswer.Ack a)) refl p) ∙ passes cs (done valuesIn) (TunnelingAck.told (TunnelingAckAnswer.Ack a)) (ackOf valuesIn) refl p
 
-pub not-acked : (body : List ℕ) (e : Refusal) → TunnelingAck.ParsePromise body (TunnelingAckAnswer.Refused e) → Refused e ≡ ackIn body
-not-acked body e p =
-    let valuesIn : List ℕ = TunnelingAck.valuesIn (get TunnelingAck.fields 0 body) in
-    refuses (TunnelingAck.checks (length body)) (done valuesIn) 3 e (ackOf valuesIn) refl p
+  pub not-acked : (body : List ℕ) (e : Refusal) → AckForm.ParseInPromise f body (TunnelingAckAnswer.Refused e) → Refused e ≡ ackIn f body
+  not-acked body e p =
+      let valuesIn : List ℕ = AckForm.valuesIn (formBy f) (get (formBy f .fields) 0 body) in
+      refuses (AckForm.checks (formBy f) (length body)) (done valuesIn) 3 e (ackOf valuesIn) refl p
 
--- ---- frames
+  -- ---- frames
 
-pub framed : (s : List ℕ) (f : FrameFields) → Frame.ParsePromise s (FrameAnswer.Frame f)
-    → inFrame (codeOf (f .header .«service_type»)) (f .header .«total_length») (partOf s 6 (f .header .«total_length»)) ≡ heardBy01 s
-framed s f p =
-    let vs : List ℕ = get fields 0 s in
-    let cs : List Check = Frame.checks (length s) vs in
-    let stands : verdict cs ≡ Accept = was-accepted cs (done vs) (Frame.told (FrameAnswer.Frame f)) refl p in
-    let read : values (f .header) ≡ vs = ap (λ (t : Told). t .values) (let-through cs (done vs) (Frame.told (FrameAnswer.Frame f)) refl p) in
-    ap (λ (ws : List ℕ). inFrame (serviceIn ws) (totalIn ws) (partOf s 6 (totalIn ws))) read
-    ∙ ap (λ (v : Verdict). heardOr v (inFrame (serviceIn vs) (totalIn vs) (partOf s 6 (totalIn vs)))) (sym stands)
+  pub framed : (s : List ℕ) (x : FrameFields) → Frame.ParsePromise s (FrameAnswer.Frame x)
+      → inFrame f (codeOf (x .header .«service_type»)) (x .header .«total_length») (partOf s 6 (x .header .«total_length»)) ≡ heardIn f s
+  framed s x p =
+      let vs : List ℕ = get fields 0 s in
+      let cs : List Check = Frame.checks (length s) vs in
+      let stands : verdict cs ≡ Accept = was-accepted cs (done vs) (Frame.told (FrameAnswer.Frame x)) refl p in
+      let read : values (x .header) ≡ vs = ap (λ (t : Told). t .values) (let-through cs (done vs) (Frame.told (FrameAnswer.Frame x)) refl p) in
+      ap (λ (ws : List ℕ). inFrame f (serviceIn ws) (totalIn ws) (partOf s 6 (totalIn ws))) read
+      ∙ ap (λ (v : Verdict). heardOr v (inFrame f (serviceIn vs) (totalIn vs) (partOf s 6 (totalIn vs)))) (sym stands)
 
-pub not-framed : (s : List ℕ) (e : Refusal) → Frame.ParsePromise s (FrameAnswer.Refused e) → Refused e ≡ heardBy01 s
-not-framed s e p =
-    let vs : List ℕ = get fields 0 s in
-    refuses (Frame.checks (length s) vs) (done vs) 4 e (inFrame (serviceIn vs) (totalIn vs) (partOf s 6 (totalIn vs))) refl p
+  pub not-framed : (s : List ℕ) (e : Refusal) → Frame.ParsePromise s (FrameAnswer.Refused e) → Refused e ≡ heardIn f s
+  not-framed s e p =
+      let vs : List ℕ = get fields 0 s in
+      refuses (Frame.checks (length s) vs) (done vs) 4 e (inFrame f (serviceIn vs) (totalIn vs) (partOf s 6 (totalIn vs))) refl p
 
 -- ---- no second answer
 
@@ -96,12 +102,15 @@ back (Refused e) = back-refused (made 0) Refused 4 e
 pub told-one : (r q : Heard) → told r ≡ told q → r ≡ q
 told-one = one-to-one told answered back
 
+pub hear-in-one : (f : Form) (s : List ℕ) (r q : Heard) → HearInPromise f s r → HearInPromise f s q → r ≡ q
+hear-in-one f s r q a b = told-one r q (same a b)
+
 pub hear-one : (s : List ℕ) (r q : Heard) → HearPromise s r → HearPromise s q → r ≡ q
-hear-one s r q a b = told-one r q (same a b)
+hear-one = hear-in-one Crate
 
 -- what is promised, as it is used: the answer itself
-pub heard-is : (s : List ℕ) (r : Heard) → HearPromise s r → r ≡ heardBy01 s
-heard-is s r p = told-one r (heardBy01 s) p
+pub heard-in-is : (f : Form) (s : List ℕ) (r : Heard) → HearInPromise f s r → r ≡ heardIn f s
+heard-in-is f s r p = told-one r (heardIn f s) p
 
 -- a refusal says its number, and zeros
 pub heard-refusing : (h : Heard) → Refusing (told h)

@@ -1,12 +1,13 @@
 // A datagram is a request or an acknowledgement of a channel, or it is refused.
 ghost use mathlib.Core.Path.{_≡_};
 ghost use Rattle.wire.specs.Parts.{partOf};
-ghost use Rattle.tunnel_datagram.specs.Hearing.{inFrame, requestIn, ackIn, HearPromise};
+ghost use Rattle.tunnel_datagram.specs.Hearing.{inFrame, requestIn, ackIn, HearPromise, HearInPromise};
 ghost use Rattle.constants.specs.Services.{codeOf};
 use constants::ServiceType;
 use frame::FrameAnswer;
 use frame::FrameFields;
 use header::KnxnetIpHeader;
+use tunnelling::Form;
 use tunnelling::TunnelingAck;
 use tunnelling::TunnelingAckAnswer;
 use tunnelling::TunnelingRequest;
@@ -26,15 +27,22 @@ pub enum Heard {
 pub fn hear(bytes: &[u8]) -> Heard
     ensures { λ r. ⌜ HearPromise (now (bytes .entry)) r ⌝ }
 {
+    hear_in(Form::Crate, bytes)
+}
+
+// An acknowledgement is read in this form.
+pub fn hear_in(form: Form, bytes: &[u8]) -> Heard
+    ensures { λ r. ⌜ HearInPromise form (now (bytes .entry)) r ⌝ }
+{
     match FrameFields::parse(bytes) {
-        FrameAnswer::Frame(frame) => in_frame(frame, bytes),
+        FrameAnswer::Frame(frame) => in_frame(form, frame, bytes),
         FrameAnswer::Refused(why) => Heard::Refused(why),
     }
 }
 
 // The frame was accepted, so its body is taken without its checks.
-fn in_frame(frame: FrameFields, bytes: &[u8]) -> Heard
-    ensures { λ r. ⌜ r ≡ inFrame (codeOf (frame .header .«service_type»)) (frame .header .«total_length») (partOf (now (bytes .entry)) 6 (frame .header .«total_length»)) ⌝ }
+fn in_frame(form: Form, frame: FrameFields, bytes: &[u8]) -> Heard
+    ensures { λ r. ⌜ r ≡ inFrame form (codeOf (frame .header .«service_type»)) (frame .header .«total_length») (partOf (now (bytes .entry)) 6 (frame .header .«total_length»)) ⌝ }
 {
     let header = frame.header;
     let service_type = header.service_type;
@@ -42,7 +50,7 @@ fn in_frame(frame: FrameFields, bytes: &[u8]) -> Heard
     let body = wire::part(bytes, KnxnetIpHeader::SIZE, end);
     match service_type {
         ServiceType::TunnellingRequest => in_request(body, end),
-        ServiceType::TunnellingAck => in_ack(body),
+        ServiceType::TunnellingAck => in_ack(form, body),
         ServiceType::ConnectRequest => Heard::Refused(Refusal::NotForTunnels),
         ServiceType::ConnectResponse => Heard::Refused(Refusal::NotForTunnels),
         ServiceType::ConnectionstateRequest => Heard::Refused(Refusal::NotForTunnels),
@@ -65,10 +73,10 @@ fn in_request(body: &[u8], end: usize) -> Heard
     }
 }
 
-fn in_ack(body: &[u8]) -> Heard
-    ensures { λ r. ⌜ r ≡ ackIn (now (body .entry)) ⌝ }
+fn in_ack(form: Form, body: &[u8]) -> Heard
+    ensures { λ r. ⌜ r ≡ ackIn form (now (body .entry)) ⌝ }
 {
-    match TunnelingAck::parse(body) {
+    match TunnelingAck::parse_in(form, body) {
         TunnelingAckAnswer::Ack(ack) => Heard::Ack {
             channel: ack.connection_header.channel_id,
             number: ack.connection_header.sequence_counter,

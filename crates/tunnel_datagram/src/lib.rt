@@ -4,3 +4,4 @@ mod hearing;
 pub use hearing::CEMI_START;
 pub use hearing::Heard;
 pub use hearing::hear;
+pub use hearing::hear_in;

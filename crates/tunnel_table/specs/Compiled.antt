@@ -7,6 +7,8 @@ use lib.ListN.{getD}
 use Rattle.wire.specs.ToldLaws.{same}
 use Rattle.wire.specs.Refusing.{Zeros}
 use Rattle.wire.specs.declared.refusals.Refusal.the-variants.{NotOpen}
+use Rattle.tunnelling.specs.declared.form.Form.{Form}
+use Rattle.tunnelling.specs.declared.form.Form.the-variants.{Crate}
 use Rattle.tunnel_datagram.specs.declared.hearing.Heard.{Heard}
 use Rattle.tunnel_datagram.specs.declared.hearing.Heard.the-variants as Heard
 use Rattle.tunnel.specs.declared.rules.Tunnel.{Tunnel}
@@ -22,7 +24,7 @@ use Rattle.tunnel_model.specs.Table.{chan, storeOf, tableOf}
 use Rattle.tunnel_model.specs.Runs as ModelRuns
 use Rattle.tunnel_model.specs.Refusing.{IsRefusal, Clean, Refuses, refusal-zeros, hears, table-leaves}
 use Rattle.tunnel_table.specs.Places.{kind, kindLaws}
-use Rattle.tunnel_table.specs.Table.{told, calledAs, on, onAt, requestRule, ackRule, heardOn, HeardPromise, CallPromise, EmptyPromise}
+use Rattle.tunnel_table.specs.Table.{told, calledAs, on, onAt, requestRule, ackRule, heardInOn, HeardPromise, HeardInPromise, CallPromise, EmptyPromise}
 use Rattle.tunnel_table.specs.declared.places.Place.{Place}
 use Rattle.tunnel_table.specs.declared.table.Table.{Table}
 use Rattle.tunnel_table.specs.declared.table.Called.{Called}
@@ -64,16 +66,21 @@ on-leaves b f out l each = go (stateIn kind (firstOf (holds kind b) l)) refl
     go none e n = (refusal-zeros NotOpen n, refl, refl)
     go (some t) e n = let x = each t n in (x .0, x .1, ap (λ (o : Option Tunnel). putFirst (holds kind b) (placed kind b o) l) (x .2) ∙ put-held kind kindLaws l b t e)
 
-heard-leaves : (h : Heard) (out : List ℕ) (l : List Place) → IsRefusal (heardOn h out l .0) → Zeros (heardOn h out l .0 .0) × (heardOn h out l .0 .1 ≡ out) × (heardOn h out l .1 ≡ l)
-heard-leaves (Heard.Request channel n end) out l = on-leaves channel (requestRule channel n end out) out l (λ t. hears t (Heard.Request channel n end) out)
-heard-leaves (Heard.Ack channel n status) out l = on-leaves channel (ackRule n status out) out l (λ t. hears t (Heard.Ack channel n status) out)
-heard-leaves (Heard.Refused e) out l = λ n. (refusal-zeros e n, refl, refl)
+heard-leaves : (f : Form) (h : Heard) (out : List ℕ) (l : List Place) → IsRefusal (heardInOn f h out l .0)
+    → Zeros (heardInOn f h out l .0 .0) × (heardInOn f h out l .0 .1 ≡ out) × (heardInOn f h out l .1 ≡ l)
+heard-leaves f (Heard.Request channel n end) out l = on-leaves channel (requestRule f channel n end out) out l (λ t. hears f t (Heard.Request channel n end) out)
+heard-leaves f (Heard.Ack channel n status) out l = on-leaves channel (ackRule n status out) out l (λ t. hears f t (Heard.Ack channel n status) out)
+heard-leaves f (Heard.Refused e) out l = λ n. (refusal-zeros e n, refl, refl)
+
+pub heard-in-refusing : (f : Form) (t : Table) (h : Heard) (out : List ℕ) (r : Called) (after : List ℕ) → HeardInPromise f t h out r after → (r .number ≡ 0 → ⊥)
+    → Zeros (told r) × (after ≡ out) × (r .table ≡ t)
+heard-in-refusing f t h out r after p n =
+    let x = subst (λ (y : Outcome × List Place). IsRefusal (y .0) → Zeros (y .0 .0) × (y .0 .1 ≡ out) × (y .1 ≡ t .places)) (sym p) (heard-leaves f h out (t .places)) n in
+    (x .0, x .1, ap (λ (l : List Place). record { places = l }) (x .2))
 
 pub heard-refusing : (t : Table) (h : Heard) (out : List ℕ) (r : Called) (after : List ℕ) → HeardPromise t h out r after → (r .number ≡ 0 → ⊥)
     → Zeros (told r) × (after ≡ out) × (r .table ≡ t)
-heard-refusing t h out r after p n =
-    let x = subst (λ (y : Outcome × List Place). IsRefusal (y .0) → Zeros (y .0 .0) × (y .0 .1 ≡ out) × (y .1 ≡ t .places)) (sym p) (heard-leaves h out (t .places)) n in
-    (x .0, x .1, ap (λ (l : List Place). record { places = l }) (x .2))
+heard-refusing = heard-in-refusing Crate
 
 -- ---- lists of compiled calls
 

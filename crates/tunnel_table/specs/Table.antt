@@ -10,7 +10,10 @@ use Rattle.wire.specs.declared.refusals.Refusal.the-variants.{NotOpen}
 use Rattle.wire.specs.declared.refusals.Verdict.{Verdict}
 use Rattle.wire.specs.declared.refusals.Verdict.the-variants.{Accept, Refuse}
 use Rattle.wire.specs.declared.refusals.Written.{Written}
-use Rattle.tunnelling.specs.Ack as TunnelingAck
+use Rattle.tunnelling.specs.AckForm.{formBy}
+use Rattle.tunnelling.specs.AckForm as AckForm
+use Rattle.tunnelling.specs.declared.form.Form.{Form}
+use Rattle.tunnelling.specs.declared.form.Form.the-variants.{Crate}
 use Rattle.tunnel_datagram.specs.declared.hearing.Heard.{Heard}
 use Rattle.tunnel_datagram.specs.declared.hearing.Heard.the-variants as Heard
 use Rattle.tunnel.specs.Rules.{arrivalOf, acknowledgedOf}
@@ -55,17 +58,24 @@ onAt (some t) b f out l = (f t .0, putFirst (holds kind b) (placed kind b (f t .
 abbrev pub on : ℕ → (Tunnel → After) → List ℕ → List Place → Outcome × List Place
 on b f out l = onAt (stateIn kind (firstOf (holds kind b) l)) b f out l
 
-abbrev pub requestRule : ℕ → ℕ → ℕ → List ℕ → Tunnel → After
-requestRule channel n end out t = arrived (arrivalOf t n) t channel n end out
+abbrev pub requestRule : Form → ℕ → ℕ → ℕ → List ℕ → Tunnel → After
+requestRule f channel n end out t = arrived f (arrivalOf t n) t channel n end out
 
 abbrev pub ackRule : ℕ → ℕ → List ℕ → Tunnel → After
 ackRule n status out t = stepped (acknowledgedOf t n status) out
 
--- what was heard of a datagram: a request, an acknowledgement, or a refusal, which changes nothing
+-- what was heard of a datagram: a request, which is acknowledged in the form that is given, an acknowledgement, or a refusal, which changes nothing
+abbrev pub heardInOn : Form → Heard → List ℕ → List Place → Outcome × List Place
+heardInOn f (Heard.Request channel n end) out l = on channel (requestRule f channel n end out) out l
+heardInOn f (Heard.Ack channel n status) out l = on channel (ackRule n status out) out l
+heardInOn f (Heard.Refused e) out l = (refuses e out, l)
+
+abbrev pub HeardInPromise : Form → Table → Heard → List ℕ → Called → List ℕ → Type 0
+HeardInPromise f t h out r after = calledAs r after ≡ heardInOn f h out (t .places)
+
+-- in the crate's form
 abbrev pub heardOn : Heard → List ℕ → List Place → Outcome × List Place
-heardOn (Heard.Request channel n end) out l = on channel (requestRule channel n end out) out l
-heardOn (Heard.Ack channel n status) out l = on channel (ackRule n status out) out l
-heardOn (Heard.Refused e) out l = (refuses e out, l)
+heardOn h out l = heardInOn Crate h out l
 
 abbrev pub HeardPromise : Table → Heard → List ℕ → Called → List ℕ → Type 0
 HeardPromise t h out r after = calledAs r after ≡ heardOn h out (t .places)
@@ -73,19 +83,19 @@ HeardPromise t h out r after = calledAs r after ≡ heardOn h out (t .places)
 abbrev pub AcknowledgementPromise : Table → ℕ → ℕ → ℕ → Called → Type 0
 AcknowledgementPromise t channel n status r = (out : List ℕ) → calledAs r out ≡ on channel (ackRule n status out) out (t .places)
 
-abbrev pub AckPromise : ℕ → ℕ → List ℕ → Written → List ℕ → Type 0
-AckPromise channel n out r after = Writes (TunnelingAck.buildChecks (length out)) (ack channel n) out r after
+abbrev pub AckPromise : Form → ℕ → ℕ → List ℕ → Written → List ℕ → Type 0
+AckPromise f channel n out r after = Writes (AckForm.buildChecks (formBy f) (length out)) (ack f channel n) out r after
 
 -- an acknowledgement is written and the channel is put back, or there is no room for it
 abbrev pub reactionTold : Reaction → ℕ → Told
 reactionTold x n = record { number = 0; values = saidOf (x .said) ∷ n ∷ []; start = x .start; end = x .end }
 
-abbrev pub reacted : Verdict → Table → ℕ → ℕ → ℕ → Reaction → List ℕ → Outcome × List Place
-reacted Accept t i b n x out = ((reactionTold x (length (ack b n)), onto out (ack b n)), set (t .places) i (record { hold = Held b (x .tunnel) }))
-reacted (Refuse e) t i b n x out = (refuses e out, t .places)
+abbrev pub reacted : Form → Verdict → Table → ℕ → ℕ → ℕ → Reaction → List ℕ → Outcome × List Place
+reacted f Accept t i b n x out = ((reactionTold x (length (ack f b n)), onto out (ack f b n)), set (t .places) i (record { hold = Held b (x .tunnel) }))
+reacted f (Refuse e) t i b n x out = (refuses e out, t .places)
 
-abbrev pub ReactPromise : Table → ℕ → ℕ → ℕ → Reaction → List ℕ → Called → List ℕ → Type 0
-ReactPromise t i b n x out r after = calledAs r after ≡ reacted (verdict (TunnelingAck.buildChecks (length out))) t i b n x out
+abbrev pub ReactPromise : Form → Table → ℕ → ℕ → ℕ → Reaction → List ℕ → Called → List ℕ → Type 0
+ReactPromise f t i b n x out r after = calledAs r after ≡ reacted f (verdict (AckForm.buildChecks (formBy f) (length out))) t i b n x out
 
 abbrev pub saying : Table → ℕ → Said → Called
 saying t n said = record { number = n; said = said; start = 0; end = 0; written = 0; table = t }

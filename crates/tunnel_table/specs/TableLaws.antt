@@ -14,7 +14,8 @@ use Rattle.wire.specs.declared.refusals.Refusal.the-variants.{NotOpen, AlreadyO
 use Rattle.wire.specs.declared.refusals.Verdict.{Verdict}
 use Rattle.wire.specs.declared.refusals.Verdict.the-variants.{Accept, Refuse}
 use Rattle.tunnelling.specs.Request as TunnelingRequest
-use Rattle.tunnel_datagram.specs.Hearing.{heardBy01}
+use Rattle.tunnelling.specs.declared.form.Form.{Form}
+use Rattle.tunnel_datagram.specs.Hearing.{heardIn}
 use Rattle.tunnel_datagram.specs.declared.hearing.Heard.{Heard}
 use Rattle.tunnel_datagram.specs.declared.hearing.Heard.the-variants as Heard
 use Rattle.tunnel.specs.Rules.{afresh, waiting, sendingOf}
@@ -28,12 +29,12 @@ use Rattle.tunnel_model.specs.PlacesLaws.{put-held}
 use Rattle.tunnel_model.specs.Store.{step, stepAt, stepOn}
 use Rattle.tunnel_model.specs.Places.{holds, free, stateIn, placed}
 use Rattle.tunnel.specs.Numbers.{saidOf}
-use Rattle.tunnel_model.specs.Calls.{Call, Open, Datagram, channelOf, named, opens, outOf, refuses, says}
+use Rattle.tunnel_model.specs.Calls.{Call, Open, DatagramIn, channelOf, named, opens, outOf, refuses, says}
 use Rattle.tunnel_model.specs.Lone.{After, left, stepped, orRefused, ack, request, sendOf, heard, lone}
 use Rattle.tunnel_model.specs.Table.{chan, storeOf, refusalIn}
 use Rattle.tunnel_table.specs.Places.{kind, kindLaws, tunnelIn, leftIn, seek}
 use Rattle.tunnel_table.specs.SeekLaws.{Stands, seek-at, seek-nothing}
-use Rattle.tunnel_table.specs.Table.{told, calledAs, on, onAt, heardOn, reactionTold, reacted, saying, putAt}
+use Rattle.tunnel_table.specs.Table.{told, calledAs, on, onAt, heardInOn, reactionTold, reacted, saying, putAt}
 use Rattle.tunnel_table.specs.declared.places.Hold.the-variants.{Free, Held}
 use Rattle.tunnel_table.specs.declared.places.Place.{Place}
 use Rattle.tunnel_table.specs.declared.places.Found.the-variants.{At, Nothing}
@@ -51,17 +52,17 @@ step-on l c b n o = rw n (go (stateIn kind (firstOf (holds kind b) l)))
     go (some t) = refl
 
 -- a datagram that names nobody
-step-nobody : (l : List Place) (bytes out : List ℕ) (e : Refusal) → heardBy01 bytes ≡ Heard.Refused e → (refuses e out, l) ≡ step chan (storeOf kind) l (Datagram bytes out)
-step-nobody l bytes out e h =
-    ap (λ (x : Heard). (refuses (refusalIn x) out, l)) (sym h) ∙ ap (λ (x : Heard). stepOn chan (storeOf kind) (channelOf x) l (Datagram bytes out)) (sym h)
+step-nobody : (f : Form) (l : List Place) (bytes out : List ℕ) (e : Refusal) → heardIn f bytes ≡ Heard.Refused e → (refuses e out, l) ≡ step chan (storeOf kind) l (DatagramIn f bytes out)
+step-nobody f l bytes out e h =
+    ap (λ (x : Heard). (refuses (refusalIn x) out, l)) (sym h) ∙ ap (λ (x : Heard). stepOn chan (storeOf kind) (channelOf x) l (DatagramIn f bytes out)) (sym h)
 
 -- a datagram is what is heard of it
-pub step-heard : (l : List Place) (bytes out : List ℕ) (h : Heard) → heardBy01 bytes ≡ h → heardOn h out l ≡ step chan (storeOf kind) l (Datagram bytes out)
-step-heard l bytes out (Heard.Request channel n end) e =
-    ap (λ (x : Heard). on channel (λ t. heard t x out) out l) (sym e) ∙ step-on l (Datagram bytes out) channel (ap channelOf e) refl
-step-heard l bytes out (Heard.Ack channel n status) e =
-    ap (λ (x : Heard). on channel (λ t. heard t x out) out l) (sym e) ∙ step-on l (Datagram bytes out) channel (ap channelOf e) refl
-step-heard l bytes out (Heard.Refused why) e = step-nobody l bytes out why e
+pub step-heard : (f : Form) (l : List Place) (bytes out : List ℕ) (h : Heard) → heardIn f bytes ≡ h → heardInOn f h out l ≡ step chan (storeOf kind) l (DatagramIn f bytes out)
+step-heard f l bytes out (Heard.Request channel n end) e =
+    ap (λ (x : Heard). on channel (λ t. heard f t x out) out l) (sym e) ∙ step-on l (DatagramIn f bytes out) channel (ap channelOf e) refl
+step-heard f l bytes out (Heard.Ack channel n status) e =
+    ap (λ (x : Heard). on channel (λ t. heard f t x out) out l) (sym e) ∙ step-on l (DatagramIn f bytes out) channel (ap channelOf e) refl
+step-heard f l bytes out (Heard.Refused why) e = step-nobody f l bytes out why e
 
 -- ---- where the channel has no place
 
@@ -111,10 +112,10 @@ module _ (T : Table) (b i : ℕ) (d : Place) (found : seek (holds kind b) 0 (T .
       ∙ ap (λ (a : After). (a .0, set (T .places) i (placed kind b (a .1)))) (sym e) ∙ rule f out
 
   -- an acknowledgement, or no room for one
-  pub at-react : (v : Verdict) (n : ℕ) (x : Reaction) (f : Tunnel → After) (out : List ℕ)
-      → f t ≡ orRefused v out t ((reactionTold x (length (ack b n)), onto out (ack b n)), some (x .tunnel)) → reacted v T i b n x out ≡ on b f out (T .places)
-  at-react Accept n x f out e = ap (λ (a : After). (a .0, set (T .places) i (placed kind b (a .1)))) (sym e) ∙ rule f out
-  at-react (Refuse w) n x f out e = at-kept f out (saying T (numberOf w) Said.Nothing) out e refl
+  pub at-react : (form : Form) (v : Verdict) (n : ℕ) (x : Reaction) (f : Tunnel → After) (out : List ℕ)
+      → f t ≡ orRefused v out t ((reactionTold x (length (ack form b n)), onto out (ack form b n)), some (x .tunnel)) → reacted form v T i b n x out ≡ on b f out (T .places)
+  at-react form Accept n x f out e = ap (λ (a : After). (a .0, set (T .places) i (placed kind b (a .1)))) (sym e) ∙ rule f out
+  at-react form (Refuse w) n x f out e = at-kept f out (saying T (numberOf w) Said.Nothing) out e refl
 
   -- a step of the rules
   pub at-step : (f : Tunnel → After) (out : List ℕ) (s : Stepped) → f t ≡ stepped s out

@@ -3,10 +3,10 @@ ghost use mathlib.Core.Path.{_≡_};
 ghost use mathlib.Core.List.{[]};
 ghost use Prim.Native.Nat.{_<_};
 ghost use Rattle.wire.specs.Refusals.{numberOf};
-ghost use Rattle.tunnel_model.specs.Calls.{Open, Close, Timeout, Send, Datagram};
+ghost use Rattle.tunnel_model.specs.Calls.{Open, Close, Timeout, Send, Datagram, DatagramIn};
 ghost use Rattle.tunnel.specs.declared.rules.Said.the-variants.{Nothing};
 ghost use Rattle.tunnel_table.specs.Places.{leftIn};
-ghost use Rattle.tunnel_table.specs.Table.{EmptyPromise, CallPromise, HeardPromise, AcknowledgementPromise, ReactPromise, AckPromise, calledAs, on, requestRule, saying, putAt};
+ghost use Rattle.tunnel_table.specs.Table.{EmptyPromise, CallPromise, HeardPromise, HeardInPromise, AcknowledgementPromise, ReactPromise, AckPromise, calledAs, on, requestRule, saying, putAt};
 use crate::places;
 use crate::places::Found;
 use crate::places::Hold;
@@ -19,6 +19,7 @@ use tunnel::Tunnel;
 use tunnel_datagram::CEMI_START;
 use tunnel_datagram::Heard;
 use tunnelling::ConnectionHeader;
+use tunnelling::Form;
 use tunnelling::TunnelingAck;
 use tunnelling::TunnelingRequest;
 use wire::Refusal;
@@ -131,23 +132,35 @@ impl Table {
         }
     }
 
-    // Only a datagram that names a channel gets as far as the table.
     pub fn datagram(self, bytes: &[u8], out: &mut [u8]) -> Called
         ensures { λ r. ⌜ CallPromise self (Datagram (now (bytes .entry)) (now (out .entry))) r (now (out .exit)) ⌝ }
     {
-        self.heard(tunnel_datagram::hear(bytes), out)
+        self.datagram_in(Form::Crate, bytes, out)
+    }
+
+    // Acknowledgements are read and written in this form. Only a datagram that names a channel gets as far as the table.
+    pub fn datagram_in(self, form: Form, bytes: &[u8], out: &mut [u8]) -> Called
+        ensures { λ r. ⌜ CallPromise self (DatagramIn form (now (bytes .entry)) (now (out .entry))) r (now (out .exit)) ⌝ }
+    {
+        self.heard_in(form, tunnel_datagram::hear_in(form, bytes), out)
     }
 
     // What was heard of a datagram, for a caller that has heard it already.
     pub fn heard(self, heard: Heard, out: &mut [u8]) -> Called
         ensures { λ r. ⌜ HeardPromise self heard (now (out .entry)) r (now (out .exit)) ⌝ }
     {
+        self.heard_in(Form::Crate, heard, out)
+    }
+
+    pub fn heard_in(self, form: Form, heard: Heard, out: &mut [u8]) -> Called
+        ensures { λ r. ⌜ HeardInPromise form self heard (now (out .entry)) r (now (out .exit)) ⌝ }
+    {
         match heard {
             Heard::Request {
                 channel,
                 number,
                 end,
-            } => self.request(channel, number, end, out),
+            } => self.request(form, channel, number, end, out),
             Heard::Ack {
                 channel,
                 number,
@@ -158,8 +171,8 @@ impl Table {
     }
 
     // The channel is known to be open before anything is written.
-    fn request(self, channel: u8, number: u8, end: usize, out: &mut [u8]) -> Called
-        ensures { λ r. ⌜ calledAs r (now (out .exit)) ≡ on channel (requestRule channel number end (now (out .entry))) (now (out .entry)) (self .places) ⌝ }
+    fn request(self, form: Form, channel: u8, number: u8, end: usize, out: &mut [u8]) -> Called
+        ensures { λ r. ⌜ calledAs r (now (out .exit)) ≡ on channel (requestRule form channel number end (now (out .entry))) (now (out .entry)) (self .places) ⌝ }
     {
         let places = self.places;
         match places::find(places, Wanted::Channel(channel)) {
@@ -175,7 +188,7 @@ impl Table {
                             end,
                             tunnel: delivered,
                         };
-                        self.react(i, channel, number, reaction, out)
+                        self.react(form, i, channel, number, reaction, out)
                     }
                     Arrival::Duplicate => {
                         let reaction = Reaction {
@@ -184,7 +197,7 @@ impl Table {
                             end: 0,
                             tunnel,
                         };
-                        self.react(i, channel, number, reaction, out)
+                        self.react(form, i, channel, number, reaction, out)
                     }
                     Arrival::OutOfOrder => self.say(0, Said::OutOfOrder),
                 }
@@ -193,13 +206,21 @@ impl Table {
     }
 
     // Nothing happens where the acknowledgement has no room.
-    fn react(self, i: usize, channel: u8, number: u8, reaction: Reaction, out: &mut [u8]) -> Called
+    fn react(
+        self,
+        form: Form,
+        i: usize,
+        channel: u8,
+        number: u8,
+        reaction: Reaction,
+        out: &mut [u8],
+    ) -> Called
         requires { ⌜ i < 8 ⌝ }
-        ensures { λ r. ⌜ ReactPromise self i channel number reaction (now (out .entry)) r (now (out .exit)) ⌝ }
+        ensures { λ r. ⌜ ReactPromise form self i channel number reaction (now (out .entry)) r (now (out .exit)) ⌝ }
     {
         let said = reaction.said;
         let tunnel = reaction.tunnel;
-        match write_ack(channel, number, out) {
+        match write_ack(form, channel, number, out) {
             Written::Bytes(written) => {
                 let table = self.put(
                     i,
@@ -275,9 +296,9 @@ impl Table {
 }
 
 // The acknowledgement of a request, with status 0.
-fn write_ack(channel: u8, number: u8, out: &mut [u8]) -> Written
-    ensures { λ r. ⌜ AckPromise channel number (now (out .entry)) r (now (out .exit)) ⌝ }
+fn write_ack(form: Form, channel: u8, number: u8, out: &mut [u8]) -> Written
+    ensures { λ r. ⌜ AckPromise form channel number (now (out .entry)) r (now (out .exit)) ⌝ }
 {
     let header = ConnectionHeader::new(channel, number);
-    TunnelingAck::new(header, 0).build(out)
+    TunnelingAck::new(header, 0).build_in(form, out)
 }

@@ -52,15 +52,15 @@ returns c =
     let a = at-part .before .before .before .before .args in
     let end = a .frame .header .«total_length» in
     c .in-request .ensures ∙ ap (λ (body : List ℕ). requestIn body end) (at-part .part .ensures)
-    ∙ ap (λ (s : ServiceType). inFrame (codeOf s) end (partOf (a .bytes .now) 6 end)) (sym (c .before .enum-told .given .1))
+    ∙ ap (λ (s : ServiceType). inFrame (a .form) (codeOf s) end (partOf (a .bytes .now) 6 end)) (sym (c .before .enum-told .given .1))
 
 returns-2 : tie.Need-returns-2
 returns-2 c =
     let at-part = c .before .before .before in
     let a = at-part .before .before .before .before .args in
     let end = a .frame .header .«total_length» in
-    c .in-ack .ensures ∙ ap ackIn (at-part .part .ensures)
-    ∙ ap (λ (s : ServiceType). inFrame (codeOf s) end (partOf (a .bytes .now) 6 end)) (sym (c .before .enum-told2 .given .1))
+    c .in-ack .ensures ∙ ap (ackIn (a .form)) (at-part .part .ensures)
+    ∙ ap (λ (s : ServiceType). inFrame (a .form) (codeOf s) end (partOf (a .bytes .now) 6 end)) (sym (c .before .enum-told2 .given .1))
 
 returns-3 : tie.Need-returns-3
 returns-3 c = rw (c .enum-told3 .given .1)

@@ -1,0 +1,83 @@
+// While a channel is open: what a gateway answers and asks. Each is read from the body of its frame.
+ghost use Rattle.knx.specs.Channel.{StatusPromise, NoStatusPromise, DisconnectRequestPromise};
+use connect::ConnectionStateAnswer;
+use connect::ConnectionStateResponse;
+use connect::DisconnectAnswer;
+use connect::DisconnectRequest;
+use connect::DisconnectResponse;
+use wire::Refusal;
+
+// A number of 01 and, beside 0, a channel and its status.
+#[repr(C)]
+pub struct KnxStatus {
+    pub channel: u8,
+    pub status: u8,
+    pub number: u8,
+}
+
+// A number of 01 and, beside 0, a channel and the gateway's control endpoint.
+#[repr(C)]
+pub struct KnxDisconnectRequest {
+    pub channel: u8,
+    pub structure_length: u8,
+    pub host_protocol: u8,
+    pub address: [u8; 4],
+    pub port: u16,
+    pub number: u8,
+}
+
+#[no_mangle]
+pub extern "C" fn knx_connectionstate_response(body: &[u8]) -> KnxStatus
+    ensures { λ r. ⌜ StatusPromise (now (body .entry)) r ⌝ }
+{
+    match ConnectionStateResponse::parse(body) {
+        ConnectionStateAnswer::Response(response) => KnxStatus {
+            channel: response.channel_id,
+            status: response.status,
+            number: 0,
+        },
+        ConnectionStateAnswer::Refused(why) => no_status(why),
+    }
+}
+
+#[no_mangle]
+pub extern "C" fn knx_disconnect_response(body: &[u8]) -> KnxStatus
+    ensures { λ r. ⌜ StatusPromise (now (body .entry)) r ⌝ }
+{
+    match DisconnectResponse::parse(body) {
+        DisconnectAnswer::Response(response) => KnxStatus {
+            channel: response.channel_id,
+            status: response.status,
+            number: 0,
+        },
+        DisconnectAnswer::Refused(why) => no_status(why),
+    }
+}
+
+#[no_mangle]
+pub extern "C" fn knx_disconnect_request_parse(body: &[u8]) -> KnxDisconnectRequest
+    ensures { λ r. ⌜ DisconnectRequestPromise (now (body .entry)) r ⌝ }
+{
+    let answer = DisconnectRequest::parse(body);
+    let request = answer.request;
+    let endpoint = request.control_endpoint;
+    let address = endpoint.ip_address;
+    KnxDisconnectRequest {
+        channel: request.channel_id,
+        structure_length: endpoint.structure_length,
+        host_protocol: endpoint.host_protocol,
+        address,
+        port: endpoint.port,
+        number: answer.number,
+    }
+}
+
+fn no_status(why: Refusal) -> KnxStatus
+    ensures { λ r. ⌜ NoStatusPromise why r ⌝ }
+{
+    KnxStatus {
+        channel: 0,
+        status: 0,
+        number: why.number(),
+    }
+}
