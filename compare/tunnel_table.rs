@@ -151,6 +151,11 @@ impl Table {
         self.datagram_in(Form::Of01, input, output)
     }
 
+    /// In KNX's own.
+    pub fn datagram_standard(&mut self, input: &[u8], output: &mut [u8]) -> Result<Answer, u8> {
+        self.datagram_in(Form::Knx, input, output)
+    }
+
     fn datagram_in(&mut self, form: Form, input: &[u8], output: &mut [u8]) -> Result<Answer, u8> {
         let (service, body) = read_frame(input)?;
         match (service, body) {
@@ -260,7 +265,7 @@ impl Table {
             (49, &[id]) => self.timeout(id),
             (50, [id, cemi @ ..]) => self.send(*id, cemi, buffer),
             (51, input) => self.datagram(input, buffer),
-            (76, input) => self.datagram_in(Form::Knx, input, buffer),
+            (76, input) => self.datagram_standard(input, buffer),
             _ => return None,
         };
         let (number, Answer { said, view, written }) = match answer {

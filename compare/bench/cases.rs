@@ -193,7 +193,9 @@ type Datagram = unsafe extern "C" fn(*mut u8, usize, *const u8, usize, *mut u8, 
 /// The memory of a table, on both sides.
 type Memory = [u8; 40];
 
+#[derive(Clone)]
 struct Datagrams {
+    sides: [Datagram; 2],
     /// Memories before a batch, and as they are; the calls go round them.
     before: [Vec<Memory>; 2],
     now: [Vec<Memory>; 2],
@@ -203,7 +205,8 @@ struct Datagrams {
     out: [u8; 64],
 }
 
-const DATAGRAM: [Datagram; 2] = [rust_table_datagram, knx_table_datagram];
+const BY_01: [Datagram; 2] = [rust_table_datagram, knx_table_datagram];
+const STANDARD: [Datagram; 2] = [rust_table_datagram_standard, knx_table_datagram_standard];
 
 fn call(datagram: Datagram, memory: &mut Memory, input: &[u8], out: &mut [u8]) -> KnxCalled {
     let (input, length, out, room) = (input.as_ptr(), input.len(), out.as_mut_ptr(), out.len());
@@ -220,7 +223,7 @@ impl Work for Datagrams {
     }
 
     fn batch(&mut self, side: usize) {
-        let (datagram, memories) = (black_box(DATAGRAM[side]), &mut self.now[side]);
+        let (datagram, memories) = (black_box(self.sides[side]), &mut self.now[side]);
         let mask = memories.len() - 1;
         for (i, input) in self.inputs.iter().enumerate() {
             black_box(call(datagram, &mut memories[i & mask], input, &mut self.out));
@@ -232,7 +235,7 @@ impl Work for Datagrams {
         for (i, input) in self.inputs.iter().enumerate() {
             let [a, b] = [0, 1].map(|side| {
                 let (memory, mut out) = (&mut self.now[side][i & mask], [0xA5; 64]);
-                (call(DATAGRAM[side], memory, input, &mut out), out)
+                (call(self.sides[side], memory, input, &mut out), out)
             });
             assert_eq!(a, b, "{input:02x?}");
             assert_eq!(a.0.number != 0, self.refused, "{input:02x?}");
@@ -273,7 +276,12 @@ fn waiting_tables() -> [Memory; 2] {
 
 fn datagrams(tables: [Memory; 2], memories: usize, inputs: Inputs, refused: bool) -> Datagrams {
     let before = tables.map(|table| vec![table; memories]);
-    Datagrams { now: before.clone(), before, inputs, refused, out: [0; 64] }
+    Datagrams { sides: BY_01, now: before.clone(), before, inputs, refused, out: [0; 64] }
+}
+
+/// The same in KNX's own form.
+fn standard(work: &Datagrams) -> Datagrams {
+    Datagrams { sides: STANDARD, ..work.clone() }
 }
 
 // All of them
@@ -297,6 +305,8 @@ fn reading() -> Vec<Case> {
     let hpai = Reads { sides: [rust_hpai_parse, knx_hpai_parse], inputs: random(inputs::hpai) };
     let sides = [rust_connect_response, knx_connect_response];
     let response = Reads { sides, inputs: random(inputs::connect_response) };
+    let sides = [rust_connect_response_standard, knx_connect_response_standard];
+    let response_standard = Reads { sides, inputs: random(inputs::opening_response) };
     let cemi = Reads { sides: [rust_cemi_ldata, knx_cemi_ldata], inputs: random(inputs::cemi) };
     let sides = [rust_cemi_ldata_standard, knx_cemi_ldata_standard];
     let standard = Reads { sides, inputs: random(inputs::cemi_standard) };
@@ -306,6 +316,7 @@ fn reading() -> Vec<Case> {
         case("frame parse, refused", "1.2 or 1 ns", "frame_parse", refused),
         case("Hpai parse", "", "hpai_parse", hpai),
         case("connect response", "", "connect_response", response),
+        case("connect response, standard", "", "connect_response_standard", response_standard),
         case("cEMI to L_Data", "0.7", "cemi_ldata", cemi),
         case("cEMI to L_Data, standard", "as above", "cemi_ldata_standard", standard),
     ]
@@ -358,14 +369,26 @@ fn tunnelling() -> Vec<Case> {
     let refused = lay_out(CALLS, |_| inputs::refused_frame(rng));
     // Each ends its channel's waiting: a table for each call, and few enough to stay near.
     let calls = CALLS / 8;
-    let acknowledge = lay_out(calls, |_| inputs::acknowledgement(IDS[rng.below(8)], 0));
-    let (idle, waiting) = (full_tables(), waiting_tables());
-    let function = "table_datagram";
+    let sent_by = |one: fn(u8, u8) -> Vec<u8>, rng: &mut Rng| {
+        let inputs = lay_out(calls, |_| one(IDS[rng.below(8)], 0));
+        datagrams(waiting_tables(), calls, inputs, false)
+    };
+    let idle = full_tables();
+    let deliver = datagrams(idle, 1, deliver, false);
+    let duplicate = datagrams(idle, 1, duplicate, false);
+    let refused = datagrams(idle, 1, refused, true);
+    let sent = sent_by(inputs::acknowledgement, rng);
+    let sent_standard = standard(&sent_by(inputs::acknowledgement_standard, rng));
+    let (by_01, knx) = ("table_datagram", "table_datagram_standard");
     vec![
-        case("datagram, deliver", "60 ns", function, datagrams(idle, 1, deliver, false)),
-        case("datagram, duplicate", "60 ns", function, datagrams(idle, 1, duplicate, false)),
-        case("datagram, sent", "60 ns", function, datagrams(waiting, calls, acknowledge, false)),
-        case("datagram, refused", "10 ns", function, datagrams(idle, 1, refused, true)),
+        case("datagram, deliver, standard", "as by 01", knx, standard(&deliver)),
+        case("datagram, deliver", "60 ns", by_01, deliver),
+        case("datagram, duplicate, standard", "as by 01", knx, standard(&duplicate)),
+        case("datagram, duplicate", "60 ns", by_01, duplicate),
+        case("datagram, sent, standard", "as by 01", knx, sent_standard),
+        case("datagram, sent", "60 ns", by_01, sent),
+        case("datagram, refused, standard", "as by 01", knx, standard(&refused)),
+        case("datagram, refused", "10 ns", by_01, refused),
     ]
 }
 

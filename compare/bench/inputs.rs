@@ -62,6 +62,11 @@ pub fn connect_response(rng: &mut Rng) -> Vec<u8> {
     [&rng.bytes(2)[..], &hpai(rng), &[4, 4], &rng.bytes(2)].concat()
 }
 
+/// One that opens a channel, with status 0.
+pub fn opening_response(rng: &mut Rng) -> Vec<u8> {
+    [&rng.bytes(1)[..], &[0], &hpai(rng), &[4, 4], &rng.bytes(2)].concat()
+}
+
 /// L_Data in cEMI: one in eight with additional information, one in eight a control packet.
 pub fn cemi(rng: &mut Rng) -> Vec<u8> {
     let data = rng.below(15);
@@ -134,6 +139,11 @@ pub fn tunnel_request(rng: &mut Rng, id: u8, number: u8) -> Vec<u8> {
 
 pub fn acknowledgement(id: u8, number: u8) -> Vec<u8> {
     frame(ACKNOWLEDGEMENT, &[4, id, number, 0, 0])
+}
+
+/// In KNX's own form.
+pub fn acknowledgement_standard(id: u8, number: u8) -> Vec<u8> {
+    frame(ACKNOWLEDGEMENT, &[4, id, number, 0])
 }
 
 /// Each of eight places 256 times, in random order.

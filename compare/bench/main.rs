@@ -38,11 +38,11 @@ fn number(word: &str) -> usize {
 
 /// Rust, port and ratio of each case.
 fn print(cases: &mut [Case], unit: &str, measure: impl Fn(usize, &mut Case) -> [f64; 3]) {
-    println!("{:<28}{:>8}{:>8}{:>8}  goal", unit, "Rust", "port", "ratio");
+    println!("{:<32}{:>8}{:>8}{:>8}  goal", unit, "Rust", "port", "ratio");
     for (place, case) in cases.iter_mut().enumerate() {
         case.work.compare();
         let [rust, port, ratio] = measure(place, case);
-        println!("{:<28}{rust:>8.2}{port:>8.2}{ratio:>8.2}  {}", case.name, case.goal);
+        println!("{:<32}{rust:>8.2}{port:>8.2}{ratio:>8.2}  {}", case.name, case.goal);
     }
 }
 

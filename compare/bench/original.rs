@@ -86,6 +86,20 @@ pub unsafe extern "C" fn rust_connect_response(
     }
 }
 
+/// As one writes it over the published crate's parser, which does not read a gateway's refusal.
+#[no_mangle]
+pub unsafe extern "C" fn rust_connect_response_standard(
+    body: *const u8,
+    length: usize,
+) -> KnxConnectResponse {
+    match *from_raw_parts(body, length) {
+        [channel, status, ..] if status != 0 => {
+            KnxConnectResponse { channel, status, ..KnxConnectResponse::default() }
+        }
+        _ => rust_connect_response(body, length),
+    }
+}
+
 #[no_mangle]
 pub unsafe extern "C" fn rust_cemi_ldata(data: *const u8, length: usize) -> KnxLData {
     match cemi_ldata(from_raw_parts(data, length)) {
@@ -317,4 +331,17 @@ pub unsafe extern "C" fn rust_table_datagram(
 ) -> KnxCalled {
     let (bytes, out) = (from_raw_parts(bytes, length), from_raw_parts_mut(out, room));
     called((*table.cast::<Table>()).datagram(bytes, out))
+}
+
+#[no_mangle]
+pub unsafe extern "C" fn rust_table_datagram_standard(
+    table: *mut u8,
+    _: usize,
+    bytes: *const u8,
+    length: usize,
+    out: *mut u8,
+    room: usize,
+) -> KnxCalled {
+    let (bytes, out) = (from_raw_parts(bytes, length), from_raw_parts_mut(out, room));
+    called((*table.cast::<Table>()).datagram_standard(bytes, out))
 }

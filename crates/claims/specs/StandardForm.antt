@@ -2,7 +2,7 @@
 use Prim.Native.Nat.{ℕ, _+_, _≤_}
 use mathlib.Core.Path.{_≡_, refl}
 use mathlib.Core.List.{List, [], _∷_, _++_}
-use mathlib.Core.Option.{Option, none, some}
+use mathlib.Core.Option.{none, some}
 use lib.ListN.{length, getD, take, replicate}
 use Rattle.wire.specs.Told.{Told, done, refused}
 use Rattle.wire.specs.Writing.{tells}
@@ -28,7 +28,7 @@ use Rattle.connect.specs.declared.channel.DisconnectRequest.{DisconnectRequest}
 use Rattle.connect.specs.declared.channel.DisconnectResponse.{DisconnectResponse}
 use Rattle.connect.specs.declared.response.ConnectResponse.{ConnectResponse}
 use Rattle.connect.specs.declared.response.ConnectResponseAnswer.{ConnectResponseAnswer}
-use Rattle.tunnelling.specs.AckForm.{formBy, bodySize, crateForm, standardForm}
+use Rattle.tunnelling.specs.AckForm.{formBy, bodySize}
 use Rattle.tunnelling.specs.AckForm as AckForm
 use Rattle.tunnelling.specs.AckLaws as TunnelingAckLaws
 use Rattle.tunnelling.specs.Request as TunnelingRequest

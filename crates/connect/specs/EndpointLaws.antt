@@ -9,7 +9,6 @@ use Rattle.wire.specs.Told.{Told, done, verdict, judged}
 use Rattle.wire.specs.ToldLaws.{refused-as, let-pass, was-accepted, let-through}
 use Rattle.wire.specs.Layout.{get}
 use Rattle.wire.specs.LayoutLaws.{get-part}
-use Rattle.wire.specs.declared.refusals.Verdict.the-variants.{Accept}
 use Rattle.hpai.specs.Hpai as Hpai
 use Rattle.hpai.specs.declared.HpaiAnswer.{HpaiAnswer}
 

@@ -11,7 +11,7 @@ use Rattle.pci.specs.Transport.{kindOf, sequenceOf}
 use Rattle.pci.specs.PciLaws.{tpciOf}
 use Rattle.ldata.specs.Builder as LDataBuilder
 use Rattle.ldata.specs.declared.count.Counting.{Counting}
-use Rattle.ldata.specs.declared.count.Counting.the-variants as Counting
+use Rattle.ldata.specs.declared.count.Counting.the-variants.{Standard}
 use Rattle.ldata.specs.declared.builder.LDataBuilder.{LDataBuilder}
 use Rattle.hpai.specs.Hpai as Hpai
 use Rattle.hpai.specs.declared.Hpai.{Hpai}
@@ -26,7 +26,7 @@ use Rattle.tunnelling.specs.Request as TunnelingRequest
 use Rattle.tunnelling.specs.Ack as TunnelingAck
 use Rattle.tunnelling.specs.AckForm as AckForm
 use Rattle.tunnelling.specs.declared.form.Form.{Form}
-use Rattle.tunnelling.specs.declared.form.Form.the-variants.{Standard}
+use Rattle.tunnelling.specs.declared.form.Form.the-variants as Form
 use Rattle.tunnelling.specs.declared.request.TunnelingRequest.{TunnelingRequest}
 use Rattle.tunnelling.specs.declared.ack.TunnelingAck.{TunnelingAck}
 use Rattle.knx.specs.declared.building.KnxWritten.{KnxWritten}
@@ -67,7 +67,7 @@ LDataBuildInPromise c control-1 control-2 source destination tpci code six «dat
 
 abbrev pub LDataBuildStandardPromise : ℕ → ℕ → ℕ → ℕ → ℕ → ℕ → ℕ → List ℕ → List ℕ → KnxWritten → List ℕ → Type 0
 LDataBuildStandardPromise control-1 control-2 source destination tpci code six «data» b r after =
-    LDataBuildInPromise Counting.Standard control-1 control-2 source destination tpci code six «data» b r after
+    LDataBuildInPromise Standard control-1 control-2 source destination tpci code six «data» b r after
 
 -- an endpoint for IPv4 over UDP
 abbrev pub endpointOf : KnxEndpoint → Hpai
@@ -114,7 +114,7 @@ abbrev pub TunnelingAckInPromise : Form → ℕ → ℕ → ℕ → List ℕ →
 TunnelingAckInPromise f channel sequence status b r after = Tells (AckForm.BuildInPromise f (ackOf channel sequence status) b) r after
 
 abbrev pub TunnelingAckStandardPromise : ℕ → ℕ → ℕ → List ℕ → KnxWritten → List ℕ → Type 0
-TunnelingAckStandardPromise channel sequence status b r after = TunnelingAckInPromise Standard channel sequence status b r after
+TunnelingAckStandardPromise channel sequence status b r after = TunnelingAckInPromise Form.Standard channel sequence status b r after
 
 abbrev pub responseOf : ℕ → ℕ → DisconnectResponse
 responseOf channel status = record { «channel_id» = channel; status = status }

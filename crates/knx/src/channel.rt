@@ -2,9 +2,7 @@
 ghost use Rattle.knx.specs.Channel.{StatusPromise, NoStatusPromise, DisconnectRequestPromise};
 use connect::ConnectionStateAnswer;
 use connect::ConnectionStateResponse;
-use connect::DisconnectAnswer;
 use connect::DisconnectRequest;
-use connect::DisconnectResponse;
 use wire::Refusal;
 
 // A number of 01 and, beside 0, a channel and its status.
@@ -30,28 +28,14 @@ pub struct KnxDisconnectRequest {
 pub extern "C" fn knx_connectionstate_response(body: &[u8]) -> KnxStatus
     ensures { λ r. ⌜ StatusPromise (now (body .entry)) r ⌝ }
 {
-    match ConnectionStateResponse::parse(body) {
-        ConnectionStateAnswer::Response(response) => KnxStatus {
-            channel: response.channel_id,
-            status: response.status,
-            number: 0,
-        },
-        ConnectionStateAnswer::Refused(why) => no_status(why),
-    }
+    status_in(body)
 }
 
 #[no_mangle]
 pub extern "C" fn knx_disconnect_response(body: &[u8]) -> KnxStatus
     ensures { λ r. ⌜ StatusPromise (now (body .entry)) r ⌝ }
 {
-    match DisconnectResponse::parse(body) {
-        DisconnectAnswer::Response(response) => KnxStatus {
-            channel: response.channel_id,
-            status: response.status,
-            number: 0,
-        },
-        DisconnectAnswer::Refused(why) => no_status(why),
-    }
+    status_in(body)
 }
 
 #[no_mangle]
@@ -69,6 +53,20 @@ pub extern "C" fn knx_disconnect_request_parse(body: &[u8]) -> KnxDisconnectRequ
         address,
         port: endpoint.port,
         number: answer.number,
+    }
+}
+
+// Both responses are a channel and a status, and read alike.
+fn status_in(body: &[u8]) -> KnxStatus
+    ensures { λ r. ⌜ StatusPromise (now (body .entry)) r ⌝ }
+{
+    match ConnectionStateResponse::parse(body) {
+        ConnectionStateAnswer::Response(response) => KnxStatus {
+            channel: response.channel_id,
+            status: response.status,
+            number: 0,
+        },
+        ConnectionStateAnswer::Refused(why) => no_status(why),
     }
 }
 

@@ -2,8 +2,8 @@
 use mathlib.Core.Path.{sym, ap, _∙_}
 use Rattle.connect.specs.Channel.{toldState}
 use borrow.Author.Needs.{needs}
-use Rattle.knx.proofs.channel.knx_connectionstate_response.Statement.{statement}
-use Rattle.knx.proofs.channel.knx_connectionstate_response.Tie as tie
+use Rattle.knx.proofs.channel.status_in.Statement.{statement}
+use Rattle.knx.proofs.channel.status_in.Tie as tie
 
 parse-requires : tie.Need-parse-requires
 parse-requires c κs = search needs
@@ -23,8 +23,8 @@ returns c = sym (ap toldState (c .before .response .given .1)) ∙ c .before .be
 returns-2 : tie.Need-returns-2
 returns-2 c = c .no-status .ensures ∙ sym (ap toldState (c .before .before .why .given .1)) ∙ c .before .before .before .before .parse .ensures
 
-pub knx-connectionstate-response-spec : {M : Type 1} → statement M
-knx-connectionstate-response-spec =
+pub status-in-spec : {M : Type 1} → statement M
+status-in-spec =
     tie.close
     (tie.spec
     parse-requires
