@@ -36,6 +36,25 @@ pub struct KnxConnectResponse {
 
 #[repr(C)]
 #[derive(Clone, Copy, Debug, Default, PartialEq)]
+pub struct KnxStatus {
+    pub channel: u8,
+    pub status: u8,
+    pub number: u8,
+}
+
+#[repr(C)]
+#[derive(Clone, Copy, Debug, Default, PartialEq)]
+pub struct KnxDisconnectRequest {
+    pub channel: u8,
+    pub structure_length: u8,
+    pub host_protocol: u8,
+    pub address: [u8; 4],
+    pub port: u16,
+    pub number: u8,
+}
+
+#[repr(C)]
+#[derive(Clone, Copy, Debug, Default, PartialEq)]
 pub struct KnxLData {
     pub start: usize,
     pub end: usize,
@@ -113,7 +132,18 @@ pub mod declared {
     extern "C" {
         pub fn knx_frame_parse(data: *const u8, data_length: usize) -> KnxFrame;
         pub fn knx_hpai_parse(data: *const u8, data_length: usize) -> KnxHpai;
+        pub fn knx_connect_response_standard(
+            body: *const u8,
+            body_length: usize,
+        ) -> KnxConnectResponse;
         pub fn knx_connect_response(body: *const u8, body_length: usize) -> KnxConnectResponse;
+        pub fn knx_own_address(response: KnxConnectResponse) -> u16;
+        pub fn knx_connectionstate_response(body: *const u8, body_length: usize) -> KnxStatus;
+        pub fn knx_disconnect_response(body: *const u8, body_length: usize) -> KnxStatus;
+        pub fn knx_disconnect_request_parse(
+            body: *const u8,
+            body_length: usize,
+        ) -> KnxDisconnectRequest;
         pub fn knx_cemi_ldata_standard(data: *const u8, data_length: usize) -> KnxLData;
         pub fn knx_cemi_ldata(data: *const u8, data_length: usize) -> KnxLData;
         pub fn knx_cemi_additional_info(data: *const u8, data_length: usize) -> KnxPart;
@@ -194,6 +224,19 @@ pub mod declared {
             out: *mut u8,
             out_length: usize,
         ) -> KnxWritten;
+        pub fn knx_disconnect_response_build(
+            channel: u8,
+            status: u8,
+            out: *mut u8,
+            out_length: usize,
+        ) -> KnxWritten;
+        pub fn knx_tunneling_ack_standard(
+            channel: u8,
+            sequence: u8,
+            status: u8,
+            out: *mut u8,
+            out_length: usize,
+        ) -> KnxWritten;
         pub fn knx_tunneling_ack(
             channel: u8,
             sequence: u8,
@@ -211,6 +254,14 @@ pub mod declared {
             id: u8,
             cemi: *const u8,
             cemi_length: usize,
+            out: *mut u8,
+            out_length: usize,
+        ) -> KnxCalled;
+        pub fn knx_table_datagram_standard(
+            image: *mut u8,
+            image_length: usize,
+            bytes: *const u8,
+            bytes_length: usize,
             out: *mut u8,
             out_length: usize,
         ) -> KnxCalled;
@@ -236,8 +287,28 @@ pub fn hpai_parse(data: &[u8]) -> KnxHpai {
     unsafe { declared::knx_hpai_parse(data.as_ptr(), data.len()) }
 }
 
+pub fn connect_response_standard(body: &[u8]) -> KnxConnectResponse {
+    unsafe { declared::knx_connect_response_standard(body.as_ptr(), body.len()) }
+}
+
 pub fn connect_response(body: &[u8]) -> KnxConnectResponse {
     unsafe { declared::knx_connect_response(body.as_ptr(), body.len()) }
+}
+
+pub fn own_address(response: KnxConnectResponse) -> u16 {
+    unsafe { declared::knx_own_address(response) }
+}
+
+pub fn connectionstate_response(body: &[u8]) -> KnxStatus {
+    unsafe { declared::knx_connectionstate_response(body.as_ptr(), body.len()) }
+}
+
+pub fn disconnect_response(body: &[u8]) -> KnxStatus {
+    unsafe { declared::knx_disconnect_response(body.as_ptr(), body.len()) }
+}
+
+pub fn disconnect_request_parse(body: &[u8]) -> KnxDisconnectRequest {
+    unsafe { declared::knx_disconnect_request_parse(body.as_ptr(), body.len()) }
 }
 
 pub fn cemi_ldata_standard(data: &[u8]) -> KnxLData {
@@ -375,6 +446,16 @@ pub fn tunneling_request(channel: u8, sequence: u8, cemi: &[u8], out: &mut [u8])
     }
 }
 
+pub fn disconnect_response_build(channel: u8, status: u8, out: &mut [u8]) -> KnxWritten {
+    unsafe { declared::knx_disconnect_response_build(channel, status, out.as_mut_ptr(), out.len()) }
+}
+
+pub fn tunneling_ack_standard(channel: u8, sequence: u8, status: u8, out: &mut [u8]) -> KnxWritten {
+    unsafe {
+        declared::knx_tunneling_ack_standard(channel, sequence, status, out.as_mut_ptr(), out.len())
+    }
+}
+
 pub fn tunneling_ack(channel: u8, sequence: u8, status: u8, out: &mut [u8]) -> KnxWritten {
     unsafe { declared::knx_tunneling_ack(channel, sequence, status, out.as_mut_ptr(), out.len()) }
 }
@@ -403,6 +484,19 @@ pub fn table_send(image: &mut [u8], id: u8, cemi: &[u8], out: &mut [u8]) -> KnxC
             id,
             cemi.as_ptr(),
             cemi.len(),
+            out.as_mut_ptr(),
+            out.len(),
+        )
+    }
+}
+
+pub fn table_datagram_standard(image: &mut [u8], bytes: &[u8], out: &mut [u8]) -> KnxCalled {
+    unsafe {
+        declared::knx_table_datagram_standard(
+            image.as_mut_ptr(),
+            image.len(),
+            bytes.as_ptr(),
+            bytes.len(),
             out.as_mut_ptr(),
             out.len(),
         )

@@ -50,6 +50,61 @@ static int untouched(void) { return holds(out, 0); }
 #define SIZE(...) (sizeof(BYTES(__VA_ARGS__)))
 #define LENT(...) BYTES(__VA_ARGS__), SIZE(__VA_ARGS__)
 
+/* ---- names and addresses: the numbers are KNX's */
+
+static void names(void) {
+    CHECK(KNX_SERVICE_CONNECT_REQUEST == 0x0205 && KNX_SERVICE_CONNECT_RESPONSE == 0x0206);
+    CHECK(KNX_SERVICE_CONNECTIONSTATE_REQUEST == 0x0207 && KNX_SERVICE_CONNECTIONSTATE_RESPONSE == 0x0208);
+    CHECK(KNX_SERVICE_DISCONNECT_REQUEST == 0x0209 && KNX_SERVICE_DISCONNECT_RESPONSE == 0x020A);
+    CHECK(KNX_SERVICE_TUNNELLING_REQUEST == 0x0420 && KNX_SERVICE_TUNNELLING_ACK == 0x0421);
+    CHECK(KNX_LDATA_REQ == 0x11 && KNX_LDATA_IND == 0x29 && KNX_LDATA_CON == 0x2E);
+    CHECK(KNX_LRAW_REQ == 0x10 && KNX_LRAW_IND == 0x2D && KNX_LRAW_CON == 0x2F && KNX_LBUSMON_IND == 0x2B);
+    CHECK(KNX_STATUS_NO_ERROR == 0 && KNX_STATUS_HOST_PROTOCOL_TYPE == 1 && KNX_STATUS_VERSION_NOT_SUPPORTED == 2);
+    CHECK(KNX_STATUS_SEQUENCE_NUMBER == 4 && KNX_STATUS_CONNECTION_ID == 0x21 && KNX_STATUS_CONNECTION_TYPE == 0x22);
+    CHECK(KNX_STATUS_CONNECTION_OPTION == 0x23 && KNX_STATUS_NO_MORE_CONNECTIONS == 0x24);
+    CHECK(KNX_STATUS_DATA_CONNECTION == 0x26 && KNX_STATUS_KNX_CONNECTION == 0x27 && KNX_STATUS_TUNNELLING_LAYER == 0x29);
+    CHECK(KNX_CONTROL_1_STANDARD == 0xBC && KNX_CONTROL_2_GROUP == 0xE0 && KNX_CONTROL_2_INDIVIDUAL == 0x60);
+    CHECK(KNX_APCI_GROUP_VALUE_READ == 0x000 && KNX_APCI_GROUP_VALUE_RESPONSE == 0x040 && KNX_APCI_GROUP_VALUE_WRITE == 0x080);
+}
+
+/* Addresses are constant expressions: they stand in initializers and name the numbers of an enum. */
+static const uint16_t groups[] = {KNX_GROUP_ADDRESS(1, 2, 3), KNX_GROUP_ADDRESS(31, 7, 255), KNX_GROUP_ADDRESS(0, 0, 1)};
+static const uint16_t individuals[] = {KNX_INDIVIDUAL_ADDRESS(1, 1, 5), KNX_INDIVIDUAL_ADDRESS(15, 15, 255),
+                                       KNX_INDIVIDUAL_ADDRESS(1, 2, 3)};
+static const uint8_t parts[] = {KNX_GROUP_MAIN(0x0A03),      KNX_GROUP_MIDDLE(0x0A03),    KNX_GROUP_SUB(0x0A03),
+                                KNX_INDIVIDUAL_AREA(0x1205), KNX_INDIVIDUAL_LINE(0x1205), KNX_INDIVIDUAL_DEVICE(0x1205)};
+enum { LAMP = KNX_GROUP_ADDRESS(1, 2, 3), SWITCH = KNX_INDIVIDUAL_ADDRESS(1, 1, 5) };
+
+static void addresses(void) {
+    CHECK(groups[0] == 0x0A03 && groups[1] == 0xFFFF && groups[2] == 0x0001 && LAMP == 0x0A03);
+    CHECK(individuals[0] == 0x1105 && individuals[1] == 0xFFFF && individuals[2] == 0x1203 && SWITCH == 0x1105);
+    CHECK(memcmp(parts, BYTES(1, 2, 3, 1, 2, 5), 6) == 0);
+    CHECK(sizeof KNX_GROUP_ADDRESS(1, 2, 3) == 2 && sizeof KNX_INDIVIDUAL_ADDRESS(1, 1, 5) == 2);
+    CHECK(KNX_GROUP_MAIN(0xFFFF) == 31 && KNX_GROUP_MIDDLE(0xFFFF) == 7 && KNX_GROUP_SUB(0xFFFF) == 255);
+    CHECK(KNX_INDIVIDUAL_AREA(0xFFFF) == 15 && KNX_INDIVIDUAL_LINE(0xFFFF) == 15 && KNX_INDIVIDUAL_DEVICE(0xFFFF) == 255);
+    /* bits above are dropped, and reach no other part */
+    CHECK(KNX_GROUP_ADDRESS(33, 10, 259) == 0x0A03 && KNX_GROUP_ADDRESS(32, 8, 256) == 0);
+    CHECK(KNX_INDIVIDUAL_ADDRESS(17, 17, 261) == 0x1105 && KNX_INDIVIDUAL_ADDRESS(16, 16, 256) == 0);
+    CHECK(KNX_GROUP_MAIN(0x10A03) == 1 && KNX_INDIVIDUAL_AREA(0x11105) == 1);
+    /* arguments that are expressions, and an address within one */
+    const unsigned none = 0, two = 2, high = 256, group = 0x0A00, individual = 0x1100;
+    CHECK(KNX_GROUP_ADDRESS(two + 1, two - 1, two | 1) == 0x1903);
+    CHECK(KNX_GROUP_ADDRESS(none || high, none || high, none || high) == 0x0901);
+    CHECK(KNX_INDIVIDUAL_ADDRESS(two + 1, two - 1, two | 1) == 0x3103);
+    CHECK(KNX_INDIVIDUAL_ADDRESS(none || high, none || high, none || high) == 0x1101);
+    CHECK(KNX_GROUP_MAIN(group | two) == 1 && KNX_GROUP_MIDDLE(group | two) == 2 && KNX_GROUP_SUB(group | two) == 2);
+    CHECK(KNX_INDIVIDUAL_AREA(individual | two) == 1 && KNX_INDIVIDUAL_LINE(individual | two) == 1);
+    CHECK(KNX_INDIVIDUAL_DEVICE(individual | two) == 2 && 2 * KNX_GROUP_ADDRESS(1, 2, 3) == 0x1406);
+    CHECK(2 * KNX_GROUP_MAIN(group) == 2 && 2 * KNX_GROUP_MIDDLE(group) == 4 && 2 * KNX_GROUP_SUB(0x0A03) == 6);
+    CHECK(2 * KNX_INDIVIDUAL_AREA(0x1205) == 2 && 2 * KNX_INDIVIDUAL_LINE(0x1205) == 4 && 2 * KNX_INDIVIDUAL_DEVICE(0x1205) == 10);
+    /* every address, taken apart and put together again */
+    unsigned same = 0;
+    for (unsigned a = 0; a <= 0xFFFF; a++)
+        same += KNX_GROUP_ADDRESS(KNX_GROUP_MAIN(a), KNX_GROUP_MIDDLE(a), KNX_GROUP_SUB(a)) == a &&
+                KNX_INDIVIDUAL_ADDRESS(KNX_INDIVIDUAL_AREA(a), KNX_INDIVIDUAL_LINE(a), KNX_INDIVIDUAL_DEVICE(a)) == a;
+    CHECK(same == 65536);
+}
+
 /* ---- reading */
 
 static int frame_is(KnxFrame f, size_t start, size_t end, unsigned service, unsigned total, unsigned number) {
@@ -90,6 +145,87 @@ static void connect_responses(void) {
     CHECK(r.number == 1 && r.channel == 0 && r.port == 0 && memcmp(r.crd, BYTES(0, 0, 0, 0), 4) == 0);
     r = knx_connect_response(LENT(0x15, 0x00, 0x09, 0x01, 0x0A, 0x00, 0x00, 0x07, 0xC3, 0x50, 0x04, 0x05, 0x11, 0x0A));
     CHECK(r.number == 2 && r.channel == 0 && r.host_protocol == 0);
+}
+
+/* All fields are 0 but these. */
+static int bare_response(KnxConnectResponse r, unsigned channel, unsigned status, unsigned number) {
+    return r.channel == channel && r.status == status && r.number == number && r.structure_length == 0 &&
+           r.host_protocol == 0 && memcmp(r.address, BYTES(0, 0, 0, 0), 4) == 0 && r.port == 0 &&
+           memcmp(r.crd, BYTES(0, 0, 0, 0), 4) == 0;
+}
+
+/* In KNX's own form, as a real gateway sends them. */
+static void connect_responses_standard(void) {
+    KnxConnectResponse r = knx_connect_response_standard(
+        LENT(0x15, 0x00, 0x08, 0x02, 0x0A, 0x00, 0x00, 0x07, 0xC3, 0x50, 0x04, 0x05, 0x11, 0x0A, 0xEE));
+    CHECK(r.number == 0 && r.channel == 0x15 && r.status == 0 && r.structure_length == 8 && r.host_protocol == 2);
+    CHECK(memcmp(r.address, BYTES(10, 0, 0, 7), 4) == 0 && r.port == 50000);
+    CHECK(memcmp(r.crd, BYTES(0x04, 0x05, 0x11, 0x0A), 4) == 0);
+    CHECK(knx_own_address(r) == 0x110A);
+    r = knx_connect_response_standard(LENT(1, 0, 8, 1, 127, 0, 0, 1, 0x0E, 0x57, 4, 4, 0xFF, 0xFE));
+    CHECK(r.number == 0 && r.channel == 1 && r.port == 3671 && knx_own_address(r) == KNX_INDIVIDUAL_ADDRESS(15, 15, 254));
+    /* a gateway that refuses: channel and status, whatever follows, a whole response too */
+    CHECK(bare_response(knx_connect_response_standard(LENT(0x00, 0x24)), 0, KNX_STATUS_NO_MORE_CONNECTIONS, 0));
+    CHECK(bare_response(knx_connect_response_standard(LENT(0x15, 0x01, 0xEE)), 0x15, 1, 0));
+    CHECK(bare_response(knx_connect_response_standard(LENT(0x15, 0x22, 0x08, 0x01, 0x0A, 0x00, 0x00, 0x07, 0xC3, 0x50)), 0x15, 0x22, 0));
+    r = knx_connect_response_standard(
+        LENT(0x15, 0xFF, 0x07, 0x01, 0x0A, 0x00, 0x00, 0x07, 0xC3, 0x50, 0x04, 0x05, 0x11, 0x0A));
+    CHECK(bare_response(r, 0x15, 0xFF, 0) && knx_own_address(r) == 0);
+    CHECK(bare_response(knx_connect_response(LENT(0x00, 0x24)), 0, 0, 1));
+    /* refused: too short, which is asked first, then another length of the endpoint */
+    CHECK(bare_response(knx_connect_response_standard(BYTES(0x15, 0x24), 0), 0, 0, 1));
+    CHECK(bare_response(knx_connect_response_standard(BYTES(0x15, 0x24), 1), 0, 0, 1));
+    CHECK(bare_response(knx_connect_response_standard(LENT(0x15, 0x00)), 0, 0, 1));
+    r = knx_connect_response_standard(LENT(0x15, 0x00, 0x09, 0x01, 0x0A, 0x00, 0x00, 0x07, 0xC3, 0x50, 0x04, 0x05, 0x11));
+    CHECK(bare_response(r, 0, 0, 1) && knx_own_address(r) == 0);
+    r = knx_connect_response_standard(LENT(0x15, 0x00, 0x09, 0x01, 0x0A, 0x00, 0x00, 0x07, 0xC3, 0x50, 0x04, 0x05, 0x11, 0x0A));
+    CHECK(bare_response(r, 0, 0, 2) && knx_own_address(r) == 0);
+    CHECK(bare_response(knx_connect_response_standard(large, LONG), 0, 0, 2));
+    /* an address is that of the response that is handed in, whatever stands in its other fields */
+    r = (KnxConnectResponse){.channel = 1, .status = 2, .structure_length = 3, .host_protocol = 4, .address = {5, 6, 7, 8},
+                             .port = 0x090A, .crd = {11, 12, 13, 14}, .number = 15};
+    CHECK(knx_own_address(r) == 0x0D0E);
+}
+
+static int status_is(KnxStatus s, unsigned channel, unsigned status, unsigned number) {
+    return s.channel == channel && s.status == status && s.number == number;
+}
+
+static void statuses(void) {
+    CHECK(status_is(knx_connectionstate_response(LENT(0x15, 0x00)), 0x15, KNX_STATUS_NO_ERROR, 0));
+    CHECK(status_is(knx_connectionstate_response(LENT(0x15, 0x21, 0xEE)), 0x15, KNX_STATUS_CONNECTION_ID, 0));
+    CHECK(status_is(knx_connectionstate_response(LENT(0xFF, 0xFE)), 0xFF, 0xFE, 0));
+    CHECK(status_is(knx_connectionstate_response(large, LONG), 0, 0, 0));
+    CHECK(status_is(knx_connectionstate_response(BYTES(0x15, 0x21), 1), 0, 0, 1));
+    CHECK(status_is(knx_connectionstate_response(BYTES(0x15, 0x21), 0), 0, 0, 1));
+    CHECK(status_is(knx_disconnect_response(LENT(0x2A, 0x00)), 0x2A, KNX_STATUS_NO_ERROR, 0));
+    CHECK(status_is(knx_disconnect_response(LENT(0x2A, 0x26, 0xEE)), 0x2A, KNX_STATUS_DATA_CONNECTION, 0));
+    CHECK(status_is(knx_disconnect_response(LENT(0xFE, 0xFF)), 0xFE, 0xFF, 0));
+    CHECK(status_is(knx_disconnect_response(large, LONG), 0, 0, 0));
+    CHECK(status_is(knx_disconnect_response(BYTES(0x2A, 0x26), 1), 0, 0, 1));
+    CHECK(status_is(knx_disconnect_response(BYTES(0x2A, 0x26), 0), 0, 0, 1));
+}
+
+static int disconnect_refused(KnxDisconnectRequest d, unsigned number) {
+    return d.number == number && d.channel == 0 && d.structure_length == 0 && d.host_protocol == 0 &&
+           memcmp(d.address, BYTES(0, 0, 0, 0), 4) == 0 && d.port == 0;
+}
+
+static void disconnect_requests(void) {
+    /* the second byte and the protocol may be any */
+    KnxDisconnectRequest d = knx_disconnect_request_parse(LENT(0x15, 0xEE, 0x08, 0x02, 0xC0, 0xA8, 0x01, 0x0A, 0x0E, 0x57, 0xEE));
+    CHECK(d.number == 0 && d.channel == 0x15 && d.structure_length == 8 && d.host_protocol == 2 && d.port == 3671);
+    CHECK(memcmp(d.address, BYTES(192, 168, 1, 10), 4) == 0);
+    d = knx_disconnect_request_parse(LENT(0x2A, 0x00, 0x08, 0x01, 0x00, 0x00, 0x00, 0x00, 0x00, 0x00));
+    CHECK(d.number == 0 && d.channel == 0x2A && d.structure_length == 8 && d.host_protocol == 1 && d.port == 0);
+    CHECK(memcmp(d.address, BYTES(0, 0, 0, 0), 4) == 0);
+    CHECK(disconnect_refused(knx_disconnect_request_parse(BYTES(0x15), 0), 1));
+    CHECK(disconnect_refused(knx_disconnect_request_parse(LENT(0x15, 0x00)), 1));
+    CHECK(disconnect_refused(knx_disconnect_request_parse(LENT(0x15, 0x00, 0x08, 0x01, 0xC0, 0xA8, 0x01, 0x0A, 0x0E)), 1));
+    CHECK(disconnect_refused(knx_disconnect_request_parse(LENT(0x15, 0x00, 0x09, 0x01, 0xC0, 0xA8, 0x01, 0x0A, 0x0E)), 1));
+    CHECK(disconnect_refused(knx_disconnect_request_parse(LENT(0x15, 0x00, 0x09, 0x01, 0xC0, 0xA8, 0x01, 0x0A, 0x0E, 0x57)), 2));
+    CHECK(disconnect_refused(knx_disconnect_request_parse(LENT(0x15, 0x08, 0x07, 0x01, 0xC0, 0xA8, 0x01, 0x0A, 0x0E, 0x57)), 2));
+    CHECK(disconnect_refused(knx_disconnect_request_parse(large, LONG), 2));
 }
 
 static int ldata_refused(KnxLData l, unsigned number) {
@@ -448,6 +584,32 @@ static void tunnelled(void) {
                 LENT(0x06, 0x10, 0x04, 0x21, 0x00, 0x0B, 0x04, 0x2A, 0x08, 0x00, 0x01)));
 }
 
+/* In KNX's own form. */
+static void answers(void) {
+    fill();
+    CHECK(wrote(knx_tunneling_ack_standard(0x15, 0x07, 0x29, out, 10),
+                LENT(0x06, 0x10, 0x04, 0x21, 0x00, 0x0A, 0x04, 0x15, 0x07, 0x29)));
+    fill();
+    CHECK(refused(knx_tunneling_ack_standard(0x15, 0x07, 0x29, out, 9), 1));
+    CHECK(refused(knx_tunneling_ack_standard(0x15, 0x07, 0x29, out, 0), 1));
+    CHECK(wrote(knx_tunneling_ack_standard(0x2A, 0xFF, KNX_STATUS_NO_ERROR, out, LONG),
+                LENT(0x06, 0x10, 0x04, 0x21, 0x00, 0x0A, 0x04, 0x2A, 0xFF, 0x00)));
+    fill();
+    CHECK(wrote(knx_disconnect_response_build(0x15, 0x26, out, 8), LENT(0x06, 0x10, 0x02, 0x0A, 0x00, 0x08, 0x15, 0x26)));
+    CHECK(frame_is(knx_frame_parse(out, 8), 6, 8, KNX_SERVICE_DISCONNECT_RESPONSE, 8, 0));
+    CHECK(status_is(knx_disconnect_response(out + 6, 2), 0x15, 0x26, 0));
+    fill();
+    CHECK(refused(knx_disconnect_response_build(0x15, 0x26, out, 7), 1));
+    CHECK(refused(knx_disconnect_response_build(0x15, 0x26, out, 0), 1));
+    CHECK(wrote(knx_disconnect_response_build(0x2A, KNX_STATUS_NO_ERROR, out, LONG),
+                LENT(0x06, 0x10, 0x02, 0x0A, 0x00, 0x08, 0x2A, 0x00)));
+    /* our own request, read as the gateway reads it */
+    fill();
+    CHECK(knx_disconnect_request(0x15, control, out, 16).number == 0);
+    KnxDisconnectRequest d = knx_disconnect_request_parse(out + 6, 10);
+    CHECK(d.number == 0 && d.channel == 0x15 && memcmp(d.address, control.address, 4) == 0 && d.port == control.port);
+}
+
 /* ---- an area far longer than a frame can have, and in the least stack of a thread */
 
 enum { MANY = 1048576, LEAST_STACK = PTHREAD_STACK_MIN > 16384 ? PTHREAD_STACK_MIN : 16384, PAINT = 0xA7 };
@@ -625,6 +787,153 @@ static void datagrams(void) {
     CHECK(image_is(LENT(1, 21, 0, 10, 0)) && untouched());
 }
 
+/* Datagrams of channel 21: a request with a cEMI of two bytes, an acknowledgement in KNX's own form, whose body has
+ * four bytes, and one in the crate's, whose body has five. */
+#define REQUEST(number) 0x06, 0x10, 0x04, 0x20, 0x00, 0x0C, 0x04, 21, number, 0x00, 0x29, 0x00
+#define ACK(number, status) 0x06, 0x10, 0x04, 0x21, 0x00, 0x0A, 0x04, 21, number, status
+#define LONG_ACK(number, fourth, fifth) 0x06, 0x10, 0x04, 0x21, 0x00, 0x0B, 0x04, 21, number, fourth, fifth
+
+/* In KNX's own form. */
+static void datagrams_standard(void) {
+    set_image(LENT(1, 21, 255, 9, 1));
+    fill();
+    /* request 255 with r = 255: nothing changes with an out of 9 bytes; deliver, r = 0; then a duplicate */
+    CHECK(call_refused(knx_table_datagram_standard(image, 42, LENT(REQUEST(255)), out, 9), 1));
+    CHECK(call_refused(knx_table_datagram_standard(image, 42, LENT(REQUEST(255)), out, 0), 1));
+    CHECK(untouched() && image_is(LENT(1, 21, 255, 9, 1)));
+    CHECK(called(knx_table_datagram_standard(image, 42, LENT(REQUEST(255), 0xEE), out, 10), KNX_SAID_DELIVER, 10, 12, 10));
+    CHECK(holds(LENT(ACK(255, 0x00))) && image_is(LENT(1, 21, 0, 9, 1)));
+    fill();
+    CHECK(call_refused(knx_table_datagram_standard(image, 42, LENT(REQUEST(255)), out, 9), 1));
+    CHECK(untouched() && image_is(LENT(1, 21, 0, 9, 1)));
+    CHECK(called(knx_table_datagram_standard(image, LONG, LENT(REQUEST(255)), out, LONG), KNX_SAID_DUPLICATE, 0, 0, 10));
+    CHECK(holds(LENT(ACK(255, 0x00))) && image_is(LENT(1, 21, 0, 9, 1)));
+    fill();
+    CHECK(called(knx_table_datagram_standard(image, 42, LENT(REQUEST(7)), out, 0), KNX_SAID_OUT_OF_ORDER, 0, 0, 0));
+    /* acknowledgements: of another number, of s, of s when idle */
+    CHECK(called(knx_table_datagram_standard(image, 42, LENT(ACK(8, 0x00)), out, 0), KNX_SAID_IGNORED, 0, 0, 0));
+    CHECK(untouched() && image_is(LENT(1, 21, 0, 9, 1)));
+    static const uint8_t padded[LONG] = {ACK(9, 0x00)};
+    CHECK(called(knx_table_datagram_standard(image, 40, padded, LONG, out, 11), KNX_SAID_SENT, 0, 0, 0));
+    CHECK(untouched() && image_is(LENT(1, 21, 0, 10, 0)));
+    CHECK(called(knx_table_datagram_standard(image, 42, LENT(ACK(9, 0x00)), out, 0), KNX_SAID_IGNORED, 0, 0, 0));
+    CHECK(called(knx_table_datagram_standard(image, 42, LENT(ACK(10, 0x29)), out, 0), KNX_SAID_IGNORED, 0, 0, 0));
+    /* refusals: image, frame, version, service, body, channel */
+    CHECK(call_refused(knx_table_datagram_standard(image, 39, LENT(REQUEST(0)), out, 10), 1));
+    CHECK(call_refused(knx_table_datagram_standard(image, 42, BYTES(6), 0, out, 10), 1));
+    CHECK(call_refused(knx_table_datagram_standard(image, 42, LENT(0x05, 0x20, 0x04, 0x20, 0x00, 0x06), out, 10), 2));
+    CHECK(call_refused(knx_table_datagram_standard(image, 42, LENT(0x06, 0x20, 0x04, 0x20, 0x00, 0x06), out, 10), 3));
+    CHECK(call_refused(knx_table_datagram_standard(image, 42, LENT(0x06, 0x10, 0xFF, 0xFF, 0x00, 0x06), out, 10), 4));
+    CHECK(call_refused(knx_table_datagram_standard(image, 42, LENT(0x06, 0x10, 0x02, 0x08, 0x00, 0x08, 21, 0x00), out, 10), 12));
+    CHECK(call_refused(knx_table_datagram_standard(image, 42, LENT(0x06, 0x10, 0x04, 0x20, 0x00, 0x09, 0x04, 21, 0), out, 10), 1));
+    CHECK(call_refused(knx_table_datagram_standard(image, 42, LENT(0x06, 0x10, 0x04, 0x21, 0x00, 0x09, 0x04, 21, 10, 0x00), out, 10), 1));
+    CHECK(call_refused(knx_table_datagram_standard(image, 42, LENT(0x06, 0x10, 0x04, 0x20, 0x00, 0x0A, 0x04, 22, 0, 0x00), out, 10), 9));
+    CHECK(call_refused(knx_table_datagram_standard(image, 42, LENT(0x06, 0x10, 0x04, 0x21, 0x00, 0x0A, 0x04, 22, 0, 0x00), out, 10), 9));
+    CHECK(untouched() && image_is(LENT(1, 21, 0, 10, 0)));
+}
+
+/* Both forms on one table: each call reads and writes its own, and the table keeps neither. */
+static void mixed_forms(void) {
+    set_image(LENT(1, 21, 4, 6, 1, 1, 22, 1, 2, 1));
+    fill();
+    /* KNX's acknowledgement is too short for the crate's call */
+    CHECK(call_refused(knx_table_datagram(image, 42, LENT(ACK(6, 0x00)), out, 11), 1));
+    CHECK(untouched() && image_is(LENT(1, 21, 4, 6, 1, 1, 22, 1, 2, 1)));
+    /* one of five bytes is read by the fourth in KNX's call, by the fifth in the crate's */
+    CHECK(called(knx_table_datagram_standard(image, 42, LENT(LONG_ACK(6, 0x29, 0x00)), out, 10), KNX_SAID_REPEAT, 0, 0, 0));
+    CHECK(image_is(LENT(1, 21, 4, 6, 2, 1, 22, 1, 2, 1)));
+    CHECK(called(knx_table_datagram_standard(image, 42, LENT(LONG_ACK(6, 0x00, 0x29)), out, 10), KNX_SAID_SENT, 0, 0, 0));
+    CHECK(untouched() && image_is(LENT(1, 21, 4, 7, 0, 1, 22, 1, 2, 1)));
+    CHECK(called(knx_table_send(image, 42, 21, LENT(0x11), out, 11), KNX_SAID_NOTHING, 0, 0, 11));
+    fill();
+    CHECK(called(knx_table_datagram(image, 42, LENT(LONG_ACK(7, 0x00, 0x29)), out, 11), KNX_SAID_REPEAT, 0, 0, 0));
+    CHECK(called(knx_table_datagram(image, 42, LENT(LONG_ACK(7, 0x29, 0x00)), out, 11), KNX_SAID_SENT, 0, 0, 0));
+    CHECK(untouched() && image_is(LENT(1, 21, 4, 8, 0, 1, 22, 1, 2, 1)));
+    /* delivered in one form, a duplicate in the other */
+    CHECK(called(knx_table_datagram_standard(image, 42, LENT(REQUEST(4)), out, 10), KNX_SAID_DELIVER, 10, 12, 10));
+    CHECK(holds(LENT(ACK(4, 0x00))) && image_is(LENT(1, 21, 5, 8, 0, 1, 22, 1, 2, 1)));
+    fill();
+    CHECK(call_refused(knx_table_datagram(image, 42, LENT(REQUEST(4)), out, 10), 1) && untouched());
+    CHECK(called(knx_table_datagram(image, 42, LENT(REQUEST(4)), out, 11), KNX_SAID_DUPLICATE, 0, 0, 11));
+    CHECK(holds(LENT(LONG_ACK(4, 0x00, 0x00))));
+    fill();
+    CHECK(called(knx_table_datagram(image, 42, LENT(REQUEST(5)), out, 11), KNX_SAID_DELIVER, 10, 12, 11));
+    CHECK(holds(LENT(LONG_ACK(5, 0x00, 0x00))) && image_is(LENT(1, 21, 6, 8, 0, 1, 22, 1, 2, 1)));
+    fill();
+    CHECK(called(knx_table_datagram_standard(image, 42, LENT(REQUEST(5)), out, 10), KNX_SAID_DUPLICATE, 0, 0, 10));
+    CHECK(holds(LENT(ACK(5, 0x00))) && image_is(LENT(1, 21, 6, 8, 0, 1, 22, 1, 2, 1)));
+    /* a status other than 0 twice: repeat, then give up */
+    set_image(LENT(1, 21, 4, 6, 1, 1, 22, 1, 2, 1));
+    fill();
+    CHECK(called(knx_table_datagram_standard(image, 42, LENT(ACK(6, KNX_STATUS_SEQUENCE_NUMBER)), out, 0), KNX_SAID_REPEAT, 0, 0, 0));
+    CHECK(called(knx_table_datagram_standard(image, 42, LENT(ACK(6, 0xFF)), out, 0), KNX_SAID_GIVE_UP, 0, 0, 0));
+    CHECK(untouched() && image_is(LENT(0, 0, 0, 0, 0, 1, 22, 1, 2, 1)));
+}
+
+/* The session of include/knx.h: channel 21, a gateway at 192.168.1.10, a lamp at 1/2/3. */
+static void session(void) {
+    static const uint8_t connected[] = {0x06, 0x10, 0x02, 0x06, 0x00, 0x14, 21,   0x00, 0x08, 0x01,
+                                        192,  168,  1,    10,   0x0E, 0x57, 0x04, 0x04, 0x11, 0x0A};
+    KnxFrame f = knx_frame_parse(connected, sizeof connected);
+    CHECK(frame_is(f, 6, 20, KNX_SERVICE_CONNECT_RESPONSE, 20, 0));
+    KnxConnectResponse r = knx_connect_response_standard(connected + f.start, f.end - f.start);
+    CHECK(r.number == 0 && r.status == KNX_STATUS_NO_ERROR && r.channel == 21 && r.port == 3671);
+    CHECK(memcmp(r.address, BYTES(192, 168, 1, 10), 4) == 0 && knx_own_address(r) == KNX_INDIVIDUAL_ADDRESS(1, 1, 10));
+    memset(image, 0xEE, LONG);
+    CHECK(knx_table_empty(image, KNX_TABLE_SIZE).count == KNX_TABLE_SIZE);
+    CHECK(called(knx_table_open(image, KNX_TABLE_SIZE, r.channel), KNX_SAID_NOTHING, 0, 0, 0));
+    CHECK(image_is(LENT(1, 21, 0, 0, 0)));
+    /* send: a group write of two bytes has 11 bytes of L_Data, 13 of cEMI and 23 as a datagram */
+    uint8_t ldata[11], cemi[13];
+    KnxWritten w = knx_ldata_build_standard(KNX_CONTROL_1_STANDARD, KNX_CONTROL_2_GROUP, 0, LAMP, 0x00, KNX_APCI_GROUP_VALUE_WRITE,
+                                            0, LENT(0x0C, 0x1A), ldata, sizeof ldata);
+    CHECK(w.number == 0 && w.count == 11);
+    w = knx_cemi_build(KNX_LDATA_REQ, BYTES(0), 0, ldata, sizeof ldata, cemi, sizeof cemi);
+    CHECK(w.number == 0 && w.count == 13);
+    fill();
+    CHECK(call_refused(knx_table_send(image, KNX_TABLE_SIZE, 21, cemi, sizeof cemi, out, 22), 1) && untouched());
+    CHECK(called(knx_table_send(image, KNX_TABLE_SIZE, 21, cemi, sizeof cemi, out, 23), KNX_SAID_NOTHING, 0, 0, 23));
+    CHECK(holds(LENT(0x06, 0x10, 0x04, 0x20, 0x00, 0x17, 0x04, 21, 0, 0x00, 0x11, 0x00, 0xBC, 0xE0, 0x00, 0x00, 0x0A, 0x03, 0x03,
+                     0x00, 0x80, 0x0C, 0x1A)));
+    CHECK(image_is(LENT(1, 21, 0, 0, 1)));
+    /* no acknowledgement in time: the same datagram once more; then it comes */
+    CHECK(called(knx_table_timeout(image, KNX_TABLE_SIZE, 21), KNX_SAID_REPEAT, 0, 0, 0) && image_is(LENT(1, 21, 0, 0, 2)));
+    fill();
+    CHECK(called(knx_table_datagram_standard(image, KNX_TABLE_SIZE, LENT(ACK(0, 0x00)), out, 10), KNX_SAID_SENT, 0, 0, 0));
+    CHECK(untouched() && image_is(LENT(1, 21, 0, 1, 0)));
+    /* receive: the switch at 1.1.5 turns the lamp on; out of 9 bytes, of exactly 10, and the same once more */
+    static const uint8_t turned_on[] = {0x06, 0x10, 0x04, 0x20, 0x00, 0x15, 0x04, 21,   0,    0x00, 0x29,
+                                        0x00, 0xBC, 0xE0, 0x11, 0x05, 0x0A, 0x03, 0x01, 0x00, 0x81};
+    CHECK(call_refused(knx_table_datagram_standard(image, KNX_TABLE_SIZE, turned_on, sizeof turned_on, out, 9), 1));
+    CHECK(untouched() && image_is(LENT(1, 21, 0, 1, 0)));
+    KnxCalled c = knx_table_datagram_standard(image, KNX_TABLE_SIZE, turned_on, sizeof turned_on, out, 10);
+    CHECK(called(c, KNX_SAID_DELIVER, 10, 21, 10) && holds(LENT(ACK(0, 0x00))) && image_is(LENT(1, 21, 1, 1, 0)));
+    KnxLData l = knx_cemi_ldata_standard(turned_on + c.start, c.end - c.start);
+    CHECK(l.number == 0 && l.message_code == KNX_LDATA_IND && l.control_1 == KNX_CONTROL_1_STANDARD && l.control_2 == KNX_CONTROL_2_GROUP);
+    CHECK(l.source == SWITCH && l.destination == LAMP && l.apci_code == KNX_APCI_GROUP_VALUE_WRITE && l.six_bit == 1);
+    CHECK(KNX_GROUP_MAIN(l.destination) == 1 && KNX_GROUP_MIDDLE(l.destination) == 2 && KNX_GROUP_SUB(l.destination) == 3);
+    fill();
+    CHECK(called(knx_table_datagram_standard(image, KNX_TABLE_SIZE, turned_on, sizeof turned_on, out, 10), KNX_SAID_DUPLICATE, 0, 0, 10));
+    CHECK(holds(LENT(ACK(0, 0x00))) && image_is(LENT(1, 21, 1, 1, 0)));
+    /* heartbeat: no affair of the table's */
+    static const uint8_t beaten[] = {0x06, 0x10, 0x02, 0x08, 0x00, 0x08, 21, 0x21};
+    fill();
+    CHECK(call_refused(knx_table_datagram_standard(image, KNX_TABLE_SIZE, beaten, sizeof beaten, out, 10), 12) && untouched());
+    f = knx_frame_parse(beaten, sizeof beaten);
+    CHECK(frame_is(f, 6, 8, KNX_SERVICE_CONNECTIONSTATE_RESPONSE, 8, 0));
+    CHECK(status_is(knx_connectionstate_response(beaten + f.start, f.end - f.start), 21, KNX_STATUS_CONNECTION_ID, 0));
+    /* end: the gateway asks for it, and is answered */
+    static const uint8_t ended[] = {0x06, 0x10, 0x02, 0x09, 0x00, 0x10, 21, 0x00, 0x08, 0x01, 192, 168, 1, 10, 0x0E, 0x57};
+    CHECK(call_refused(knx_table_datagram_standard(image, KNX_TABLE_SIZE, ended, sizeof ended, out, 10), 12) && untouched());
+    f = knx_frame_parse(ended, sizeof ended);
+    CHECK(frame_is(f, 6, 16, KNX_SERVICE_DISCONNECT_REQUEST, 16, 0));
+    KnxDisconnectRequest d = knx_disconnect_request_parse(ended + f.start, f.end - f.start);
+    CHECK(d.number == 0 && d.channel == 21 && memcmp(d.address, BYTES(192, 168, 1, 10), 4) == 0 && d.port == 3671);
+    CHECK(wrote(knx_disconnect_response_build(d.channel, KNX_STATUS_NO_ERROR, out, 8),
+                LENT(0x06, 0x10, 0x02, 0x0A, 0x00, 0x08, 21, 0x00)));
+    CHECK(knx_table_close(image, KNX_TABLE_SIZE, d.channel).number == 0 && image_is(BYTES(0), 0));
+}
+
 /* Bytes that no call writes: a held byte other than 1, a waiting byte above 2, a free place with contents. */
 static void odd_images(void) {
     set_image(LENT(0, 21, 1, 2, 1, 7, 21, 3, 4, 9));
@@ -637,9 +946,14 @@ static void odd_images(void) {
 }
 
 int main(void) {
+    names();
+    addresses();
     frames();
     hpais();
     connect_responses();
+    connect_responses_standard();
+    statuses();
+    disconnect_requests();
     cemis();
     cemis_standard();
     areas();
@@ -654,9 +968,13 @@ int main(void) {
     cemi_frames();
     requests();
     tunnelled();
+    answers();
     opening();
     waiting();
     datagrams();
+    datagrams_standard();
+    mixed_forms();
+    session();
     odd_images();
     size_t stack = long_areas();
     printf("C: 2 MiB of additional information in %zu of %d bytes of stack\n", stack, LEAST_STACK);
