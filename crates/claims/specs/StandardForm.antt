@@ -147,6 +147,7 @@ builds f m = tells (AckForm.buildChecks (formBy f) m) [] .number
 
 pub record Acks : Type 0 where
   pub built : AckForm.BuildInPromise Standard (ackOf 0x2A) room (Written.Bytes 10) (0x06 ∷ 0x10 ∷ 0x04 ∷ 0x21 ∷ 0x00 ∷ 0x0A ∷ 0x04 ∷ 0x15 ∷ 0x07 ∷ 0x2A ∷ 9 ∷ 9 ∷ [])
+  pub built-0 : AckForm.BuildInPromise Standard (ackOf 0) room (Written.Bytes 10) (0x06 ∷ 0x10 ∷ 0x04 ∷ 0x21 ∷ 0x00 ∷ 0x0A ∷ 0x04 ∷ 0x15 ∷ 0x07 ∷ 0x00 ∷ 9 ∷ 9 ∷ [])
   pub built-by-01 : AckForm.BuildInPromise Crate (ackOf 0x2A) room (Written.Bytes 11) (0x06 ∷ 0x10 ∷ 0x04 ∷ 0x21 ∷ 0x00 ∷ 0x0B ∷ 0x04 ∷ 0x15 ∷ 0x07 ∷ 0x00 ∷ 0x2A ∷ 9 ∷ [])
   -- the output needs 10 bytes, by 01 eleven
   pub room-9 : builds Standard 9 ≡ 1
@@ -155,24 +156,32 @@ pub record Acks : Type 0 where
   -- a body of four bytes or more, the fourth the status; by 01 of five, the fifth
   pub three : reads Standard (0x04 ∷ 0x15 ∷ 0x07 ∷ []) ≡ refused 3 BufferTooSmall
   pub four : reads Standard (0x04 ∷ 0x15 ∷ 0x07 ∷ 0x2A ∷ []) ≡ done (0x15 ∷ 7 ∷ 0x2A ∷ [])
+  pub four-0 : reads Standard (0x04 ∷ 0x15 ∷ 0x07 ∷ 0x00 ∷ []) ≡ done (0x15 ∷ 7 ∷ 0 ∷ [])
   pub four-by-01 : reads Crate (0x04 ∷ 0x15 ∷ 0x07 ∷ 0x2A ∷ []) ≡ refused 3 BufferTooSmall
   pub five : reads Standard (0x04 ∷ 0x15 ∷ 0x07 ∷ 0x00 ∷ 0x2A ∷ []) ≡ done (0x15 ∷ 7 ∷ 0 ∷ [])
   pub five-by-01 : reads Crate (0x04 ∷ 0x15 ∷ 0x07 ∷ 0x00 ∷ 0x2A ∷ []) ≡ done (0x15 ∷ 7 ∷ 0x2A ∷ [])
+  -- a status in KNX's place, and 0 in the crate's
+  pub both : reads Standard (0x04 ∷ 0x15 ∷ 0x07 ∷ 0x01 ∷ 0x00 ∷ []) ≡ done (0x15 ∷ 7 ∷ 1 ∷ [])
+  pub both-by-01 : reads Crate (0x04 ∷ 0x15 ∷ 0x07 ∷ 0x01 ∷ 0x00 ∷ []) ≡ done (0x15 ∷ 7 ∷ 0 ∷ [])
   -- the length byte is not looked at
   pub length-byte : reads Standard (0xFF ∷ 0x15 ∷ 0x07 ∷ 0x2A ∷ 0xEE ∷ 0xEE ∷ []) ≡ done (0x15 ∷ 7 ∷ 0x2A ∷ [])
 
 pub acks : Acks
 acks = record {
   built = (refl, refl);
+  built-0 = (refl, refl);
   built-by-01 = (refl, refl);
   room-9 = refl;
   room-10 = refl;
   room-10-by-01 = refl;
   three = refl;
   four = refl;
+  four-0 = refl;
   four-by-01 = refl;
   five = refl;
   five-by-01 = refl;
+  both = refl;
+  both-by-01 = refl;
   length-byte = refl;
 }
 

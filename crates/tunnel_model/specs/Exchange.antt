@@ -58,11 +58,11 @@ send-heard f t b cemi out z =
 
 -- ---- a request that was answered 0 and for which something was written: its acknowledgement, with status 0
 
-module _ (f : Form) where
-  -- something was written
-  abbrev pub Acknowledges : After → Type 0
-  Acknowledges a = 1 ≤ getD (a .0 .0 .values) 1 0
+-- something was written
+abbrev Acknowledges : After → Type 0
+Acknowledges a = 1 ≤ getD (a .0 .0 .values) 1 0
 
+module _ (f : Form) where
   ack-writes : (x : Arrival) (t : Tunnel) (channel n end : ℕ) (out : List ℕ) → arrived f x t channel n end out .0 .0 .number ≡ 0 → Acknowledges (arrived f x t channel n end out)
       → arrived f x t channel n end out .0 .1 ≡ onto out (ack f channel n)
   ack-writes Deliver t channel n end out z w = ap (λ (a : After). a .0 .1) (accepted (verdict (AckForm.buildChecks (formBy f) (length out))) out t _ z)
