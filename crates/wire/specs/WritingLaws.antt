@@ -3,10 +3,11 @@ use Prim.Native.Nat.{ℕ}
 use mathlib.Core.Path.{_≡_, refl, sym, ap, _∙_}
 use mathlib.Core.List.{List, [], _∷_, _++_}
 use lib.ListN.{length, getD}
-use Rattle.wire.specs.Told.{Told, done, Check, verdict, answer, lent}
+use Rattle.wire.specs.Told.{Told, done, nowhere, Check, verdict, answer, lent}
 use Rattle.wire.specs.ToldLaws.{stays, goes-on, let-refuse, was-accepted, was-refused, let-through, same, one-to-one, answerOf, back-refused}
 use Rattle.wire.specs.Writing.{told, onto, Writes, room, WritePromise, Write3Promise}
 use Rattle.wire.specs.declared.refusals.Refusal.{Refusal}
+use Rattle.wire.specs.declared.refusals.Fault.{Fault}
 use Rattle.wire.specs.declared.refusals.Verdict.{Verdict}
 use Rattle.wire.specs.declared.refusals.Verdict.the-variants.{Accept, Refuse}
 use Rattle.wire.specs.declared.refusals.Written.{Written}
@@ -15,12 +16,16 @@ use Rattle.wire.specs.declared.refusals.Written.the-variants.{Bytes, Ref
 abbrev bytesOf : List ℕ → Written
 bytesOf vs = Bytes (getD vs 0 0)
 
-told-back : (r : Written) → answerOf bytesOf Refused (told r) ≡ r
+-- a builder names no field
+abbrev unwritten : Fault → Written
+unwritten f = Refused (f .why)
+
+told-back : (r : Written) → answerOf bytesOf unwritten (told r) ≡ r
 told-back (Bytes n) = refl
-told-back (Refused e) = back-refused bytesOf Refused 1 e
+told-back (Refused e) = back-refused bytesOf unwritten 1 (nowhere e)
 
 pub told-one : (r q : Written) → told r ≡ told q → r ≡ q
-told-one = one-to-one told (answerOf bytesOf Refused) told-back
+told-one = one-to-one told (answerOf bytesOf unwritten) told-back
 
 pub writes-one : (cs : List Check) (w b : List ℕ) (r q : Written) (after later : List ℕ)
     → Writes cs w b r after → Writes cs w b q later → (r ≡ q) × (after ≡ later)
@@ -50,7 +55,7 @@ was-written cs w b n after x = was-accepted cs (done (length w ∷ [])) (done (n
 -- where it refused, so did the checks, and the buffer is as it was
 pub was-unwritten : (cs : List Check) (w b : List ℕ) (e : Refusal) (after : List ℕ) → Writes cs w b (Refused e) after → (verdict cs ≡ Refuse e) × (after ≡ b)
 was-unwritten cs w b e after x =
-    let q : verdict cs ≡ Refuse e = was-refused cs (done (length w ∷ [])) 1 e refl (x .0) in
+    let q : verdict cs ≡ Refuse e = was-refused cs (done (length w ∷ [])) 1 (nowhere e) refl (x .0) in
     (q, x .1 ∙ ap (λ (v : Verdict). lent v b (onto b w)) q)
 
 -- other checks that say the same, or the same bytes put otherwise
