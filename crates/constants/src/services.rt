@@ -1,5 +1,6 @@
 // The eight services, by name and by code.
 ghost use Rattle.constants.specs.Services.{FromPromise, ToPromise};
+use wire::Fault;
 use wire::Refusal;
 
 pub const SERVICE_CONNECT_REQUEST: u16 = 0x0205;
@@ -25,7 +26,7 @@ pub enum ServiceType {
 
 pub enum ServiceAnswer {
     Service(ServiceType),
-    Refused(Refusal),
+    Refused(Fault),
 }
 
 impl ServiceType {
@@ -41,7 +42,10 @@ impl ServiceType {
             0x020A => ServiceAnswer::Service(ServiceType::DisconnectResponse),
             0x0420 => ServiceAnswer::Service(ServiceType::TunnellingRequest),
             0x0421 => ServiceAnswer::Service(ServiceType::TunnellingAck),
-            _ => ServiceAnswer::Refused(Refusal::UnsupportedServiceType),
+            _ => ServiceAnswer::Refused(Fault {
+                why: Refusal::UnsupportedServiceType,
+                at: 0,
+            }),
         }
     }
 
