@@ -6,6 +6,7 @@ use mathlib.Core.List.{List, [], _∷_, _++_}
 use lib.ListN.{length, getD, take}
 use lib.Dec.{ltb}
 use Rattle.wire.specs.Told.{Told, done, viewed, refused, Check, _⇒_, judged}
+use Rattle.wire.specs.Places.{located}
 use Rattle.wire.specs.Layout.{Field, byte, word, get}
 use Rattle.wire.specs.Parts.{shown}
 use Rattle.wire.specs.Parts as Parts
@@ -77,6 +78,13 @@ checks C n d l =
     ltb n (C .least) ⇒ BufferTooSmall
     ∷ cond (C .allowedFirst) (lengthCheck C d l ∷ endCheck C n l ∷ []) (endCheck C n l ∷ lengthCheck C d l ∷ [])
 
+-- beside them, the input's end, then L's offset for both, in either order
+abbrev pub lengthOffsets : List ℕ
+lengthOffsets = 6 ∷ 6 ∷ []
+
+abbrev pub offsets : ℕ → List ℕ
+offsets n = n ∷ lengthOffsets
+
 abbrev pub told : LDataAnswer → Told
 told (Frame f) = done (values f)
 told (Refused e) = refused 9 e
@@ -87,6 +95,10 @@ byteChecks C s = checks C (length s) (dataByte (tpciIn (get fields 0 s))) (lengt
 abbrev pub parseBy01 : Count → List ℕ → Told
 parseBy01 C s = judged (byteChecks C s) (done (valuesIn C s))
 
+-- and where: a switch telegram whose L is 7 is 2 at 6
+abbrev pub parseWhere : Count → List ℕ → Told
+parseWhere C s = located (byteChecks C s) (offsets (length s)) (parseBy01 C s)
+
 -- "An accessor given a record that no parse made repeats that record's parse checks first, with their numbers."
 abbrev pub recordChecks : Count → LDataFields → ℕ → List Check
 recordChecks C f n = checks C n (isData (f .tpci)) (f .«npdu_length»)
@@ -94,13 +106,16 @@ recordChecks C f n = checks C n (isData (f .tpci)) (f .«npdu_length»)
 abbrev pub dataBy01 : Count → LDataFields → List ℕ → Told
 dataBy01 C f s = judged (recordChecks C f (length s)) (viewed (startOf (isData (f .tpci))) (C .endOf (f .«npdu_length»)))
 
+abbrev pub dataWhere : Count → LDataFields → List ℕ → Told
+dataWhere C f s = located (recordChecks C f (length s)) (offsets (length s)) (dataBy01 C f s)
+
 -- ---- what the functions promise, with the crate's count
 
 abbrev pub ParsePromise : List ℕ → LDataAnswer → Type 0
-ParsePromise s r = told r ≡ parseBy01 crateCount s
+ParsePromise s r = told r ≡ parseWhere crateCount s
 
 abbrev pub DataPromise : LDataFields → List ℕ → View → Type 0
-DataPromise f s r = Parts.told r ≡ dataBy01 crateCount f s
+DataPromise f s r = Parts.told r ≡ dataWhere crateCount f s
 
 abbrev pub DataPartPromise : LDataFields → List ℕ → List ℕ → Type 0
 DataPartPromise f s r = r ≡ shown s (dataBy01 crateCount f s)
@@ -108,10 +123,10 @@ DataPartPromise f s r = r ≡ shown s (dataBy01 crateCount f s)
 -- ---- the same in the count that they are given
 
 abbrev pub ParseInPromise : Counting → List ℕ → LDataAnswer → Type 0
-ParseInPromise c s r = told r ≡ parseBy01 (countBy c) s
+ParseInPromise c s r = told r ≡ parseWhere (countBy c) s
 
 abbrev pub DataInPromise : Counting → LDataFields → List ℕ → View → Type 0
-DataInPromise c f s r = Parts.told r ≡ dataBy01 (countBy c) f s
+DataInPromise c f s r = Parts.told r ≡ dataWhere (countBy c) f s
 
 abbrev pub DataPartInPromise : Counting → LDataFields → List ℕ → List ℕ → Type 0
 DataPartInPromise c f s r = r ≡ shown s (dataBy01 (countBy c) f s)

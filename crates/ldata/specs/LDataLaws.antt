@@ -9,17 +9,19 @@ use lib.Seq.{take-suc, take-add}
 use lib.Dec.{ltb}
 use borrow.Author.Tests.{ltb-false}
 use Rattle.wire.specs.Told.{Told, done, viewed, Check, _⇒_, verdict, judged}
-use Rattle.wire.specs.ToldLaws.{let-pass, let-refuse, is-true, holds, was-accepted, let-through, same, one-to-one, answerOf, back-refused}
+use Rattle.wire.specs.ToldLaws.{let-pass, is-true, holds, was-accepted, let-through, same, one-to-one, answerOf, back-refused}
+use Rattle.wire.specs.Places.{standing, andThen}
+use Rattle.wire.specs.PlaceLaws.{stands-then, stands-accepted, accepted-stands, located-pass, located-fall}
 use Rattle.wire.specs.Layout.{put}
 use Rattle.wire.specs.LayoutLaws.{Bytes, put-get}
 use Rattle.wire.specs.Parts.{shown}
 use Rattle.wire.specs.PartLaws.{part-is}
 use Rattle.wire.specs.PartLaws as PartLaws
 use Rattle.wire.specs.declared.parts.View.{View}
-use Rattle.wire.specs.declared.refusals.Refusal.{Refusal}
+use Rattle.wire.specs.declared.refusals.Fault.{Fault}
 use Rattle.wire.specs.declared.refusals.Refusal.the-variants.{BufferTooSmall, InvalidFrame}
-use Rattle.wire.specs.declared.refusals.Verdict.{Verdict}
-use Rattle.wire.specs.declared.refusals.Verdict.the-variants.{Accept, Refuse}
+use Rattle.wire.specs.declared.refusals.Verdict.the-variants.{Accept}
+use Rattle.wire.specs.declared.refusals.Standing.the-variants as Standing
 use Rattle.pci.specs.Transport.{isData}
 use Rattle.pci.specs.Transport as Transport
 use Rattle.pci.specs.Application.{isUnknown}
@@ -30,7 +32,7 @@ use Rattle.pci.specs.declared.transport.Tpci.the-variants.{UnnumberedData, Numb
 use Rattle.pci.specs.declared.application.Apci.{Apci}
 use Rattle.ldata.specs.Count.{Count, startOf}
 use Rattle.ldata.specs.CountLaws.{Lawful}
-use Rattle.ldata.specs.LData.{fields, dataByte, apciIn, values, valuesIn, endCheck, lengthCheck, checks, byteChecks, told, parseBy01, dataBy01, ParseInPromise, DataInPromise, toldGroup, toldIndividual, DestinationGroupPromise, DestinationIndividualPromise, IsServicePromise}
+use Rattle.ldata.specs.LData.{fields, dataByte, apciIn, values, valuesIn, endCheck, lengthCheck, checks, lengthOffsets, offsets, byteChecks, told, parseWhere, dataBy01, ParseInPromise, DataInPromise, toldGroup, toldIndividual, DestinationGroupPromise, DestinationIndividualPromise, IsServicePromise}
 use Rattle.ldata.specs.declared.count.Counting.{Counting}
 use Rattle.ldata.specs.declared.ldata.LDataFields.{LDataFields}
 use Rattle.ldata.specs.declared.ldata.LDataAnswer.{LDataAnswer}
@@ -40,6 +42,14 @@ use Rattle.ldata.specs.declared.destination.GroupAddressAnswer.the-varia
 use Rattle.ldata.specs.declared.destination.IndividualAddressAnswer.{IndividualAddressAnswer}
 use Rattle.ldata.specs.declared.destination.IndividualAddressAnswer.the-variants as IndividualAddressAnswer
 
+-- an offset for each check, in either order
+pub one-each : (C : Count) (n : ℕ) (d : Bool) (l : ℕ) → length (offsets n) ≡ length (checks C n d l)
+one-each C n d l = go (C .allowedFirst)
+  where
+    go : (first : Bool) → length (offsets n) ≡ length (ltb n (C .least) ⇒ BufferTooSmall ∷ cond first (lengthCheck C d l ∷ endCheck C n l ∷ []) (endCheck C n l ∷ lengthCheck C d l ∷ []))
+    go true = refl
+    go false = refl
+
 -- ---- on from TPCI
 
 -- whether a packet that was read from a byte is a data packet is said by the byte
@@ -47,14 +57,19 @@ pub same-kind : (b : ℕ) (t : Tpci) (d : Bool) → Transport.FromPromise b t �
 same-kind b t d from is = is ∙ ap (λ (vs : List ℕ). ltb (getD vs 0 0) 2) from
 
 module _ (C : Count) (s : List ℕ) (d : Bool) (kind : d ≡ dataByte (getD s 7 0)) where
-  over : verdict (checks C (length s) d (getD s 6 0)) ≡ verdict (byteChecks C s)
-  over = ap (λ (e : Bool). verdict (checks C (length s) e (getD s 6 0))) kind
+  abbrev os : List ℕ
+  os = offsets (length s)
 
-  pub stood : (f : LDataFields) → values f ≡ valuesIn C s → verdict (checks C (length s) d (getD s 6 0)) ≡ Accept → told (Frame f) ≡ parseBy01 C s
-  stood f read q = ap done read ∙ sym (let-pass (byteChecks C s) (done (valuesIn C s)) (sym over ∙ q))
+  over : standing (checks C (length s) d (getD s 6 0)) os ≡ standing (byteChecks C s) os
+  over = ap (λ (e : Bool). standing (checks C (length s) e (getD s 6 0)) os) kind
 
-  pub fell : (e : Refusal) → verdict (checks C (length s) d (getD s 6 0)) ≡ Refuse e → told (Refused e) ≡ parseBy01 C s
-  fell e q = sym (let-refuse (byteChecks C s) (done (valuesIn C s)) e (sym over ∙ q))
+  pub stood : (f : LDataFields) → values f ≡ valuesIn C s → standing (checks C (length s) d (getD s 6 0)) os ≡ Standing.Stands → told (Frame f) ≡ parseWhere C s
+  stood f read q =
+      let each = one-each C (length s) (dataByte (getD s 7 0)) (getD s 6 0) in
+      ap done read ∙ sym (located-pass (byteChecks C s) os (done (valuesIn C s)) each refl (stands-accepted (byteChecks C s) os (sym over ∙ q)))
+
+  pub fell : (e : Fault) → standing (checks C (length s) d (getD s 6 0)) os ≡ Standing.Falls e → told (Refused e) ≡ parseWhere C s
+  fell e q = sym (located-fall (byteChecks C s) os (done (valuesIn C s)) e (sym over ∙ q))
 
 -- the kind is the first of a TPCI's values
 kind-first : (t : Tpci) (l : List ℕ) → getD (Transport.values t ++ l) 0 0 ≡ getD (Transport.values t) 0 0
@@ -71,24 +86,36 @@ pub record Stands (C : Count) (n : ℕ) (d : Bool) (l : ℕ) : Type 0 where
   pub reaches : C .endOf l ≤ n
   pub fits : not (C .allowed d l) ≡ false
 
--- the last two checks refuse with one number, so their order does not show in the verdict
-pub last-two : (C : Count) (n : ℕ) (d : Bool) (l : ℕ) → verdict (drop 1 (checks C n d l)) ≡ verdict (endCheck C n l ∷ lengthCheck C d l ∷ [])
+-- the last two checks refuse with one number at one place, so their order does not show
+pub last-two : (C : Count) (n : ℕ) (d : Bool) (l : ℕ) → standing (drop 1 (checks C n d l)) lengthOffsets ≡ standing (endCheck C n l ∷ lengthCheck C d l ∷ []) lengthOffsets
 last-two C n d l = go (C .allowedFirst) (ltb n (C .endOf l)) (not (C .allowed d l))
   where
-    go : (first a b : Bool) → verdict (cond first (b ⇒ InvalidFrame ∷ a ⇒ InvalidFrame ∷ []) (a ⇒ InvalidFrame ∷ b ⇒ InvalidFrame ∷ [])) ≡ verdict (a ⇒ InvalidFrame ∷ b ⇒ InvalidFrame ∷ [])
+    go : (first a b : Bool)
+        → standing (cond first (b ⇒ InvalidFrame ∷ a ⇒ InvalidFrame ∷ []) (a ⇒ InvalidFrame ∷ b ⇒ InvalidFrame ∷ [])) lengthOffsets ≡ standing (a ⇒ InvalidFrame ∷ b ⇒ InvalidFrame ∷ []) lengthOffsets
     go false a b = refl
     go true true true = refl
     go true true false = refl
     go true false true = refl
     go true false false = refl
 
-pub any-order : (C : Count) (n : ℕ) (d : Bool) (l : ℕ) → verdict (checks C n d l) ≡ verdict (ltb n (C .least) ⇒ BufferTooSmall ∷ endCheck C n l ∷ lengthCheck C d l ∷ [])
-any-order C n d l = ap (λ (v : Verdict). cond (ltb n (C .least)) (Refuse BufferTooSmall) v) (last-two C n d l)
+-- the checks with the end asked first
+abbrev pub endFirst : Count → ℕ → Bool → ℕ → List Check
+endFirst C n d l = ltb n (C .least) ⇒ BufferTooSmall ∷ endCheck C n l ∷ lengthCheck C d l ∷ []
+
+pub any-order : (C : Count) (n : ℕ) (d : Bool) (l : ℕ) → standing (checks C n d l) (offsets n) ≡ standing (endFirst C n d l) (offsets n)
+any-order C n d l =
+    let small : List Check = ltb n (C .least) ⇒ BufferTooSmall ∷ [] in
+    stands-then small (drop 1 (checks C n d l)) (n ∷ []) lengthOffsets refl
+    ∙ ap (andThen (standing small (n ∷ []))) (last-two C n d l)
+    ∙ sym (stands-then small (endCheck C n l ∷ lengthCheck C d l ∷ []) (n ∷ []) lengthOffsets refl)
+
+pub accepts-either : (C : Count) (n : ℕ) (d : Bool) (l : ℕ) → verdict (endFirst C n d l) ≡ Accept → verdict (checks C n d l) ≡ Accept
+accepts-either C n d l q = stands-accepted (checks C n d l) (offsets n) (any-order C n d l ∙ accepted-stands (endFirst C n d l) (offsets n) q)
 
 pub accepted : (C : Count) (n : ℕ) (d : Bool) (l : ℕ) → verdict (checks C n d l) ≡ Accept → Stands C n d l
 accepted C n d l accepts =
     let small : Check = ltb n (C .least) ⇒ BufferTooSmall in
-    let q = sym (any-order C n d l) ∙ accepts in
+    let q = stands-accepted (endFirst C n d l) (offsets n) (sym (any-order C n d l) ∙ accepted-stands (checks C n d l) (offsets n) accepts) in
     record {
       enough = ltb-false n (C .least) (holds [] (ltb n (C .least)) BufferTooSmall (endCheck C n l ∷ lengthCheck C d l ∷ []) q);
       reaches = ltb-false n (C .endOf l) (holds (small ∷ []) (ltb n (C .endOf l)) InvalidFrame (lengthCheck C d l ∷ []) q);
@@ -99,7 +126,7 @@ accepted C n d l accepts =
 abbrev pub frontOf : LDataFields → ℕ → List ℕ
 frontOf f tpci = put fields (f .ctrl1 .raw ∷ f .ctrl2 .raw ∷ f .source .0 ∷ f .«destination_raw» ∷ f .«npdu_length» ∷ tpci ∷ [])
 
-module _ (C : Count) (s : List ℕ) (f : LDataFields) (parsed : told (Frame f) ≡ parseBy01 C s) where
+module _ (C : Count) (s : List ℕ) (f : LDataFields) (parsed : told (Frame f) ≡ parseWhere C s) where
   -- the values of the record are those that stand in the bytes
   pub read : values f ≡ valuesIn C s
   read = ap (λ (t : Told). t .values) (let-through (byteChecks C s) (done (valuesIn C s)) (told (Frame f)) refl parsed)
@@ -157,7 +184,7 @@ module _ (C : Count) (s : List ℕ) (f : LDataFields) (parsed : told (Frame f) �
 
 -- a control packet asks no named service, not even that of code 0
 pub control-never : (C : Count) → Lawful C → (s : List ℕ) (f : LDataFields) (code : ℕ) (r : Bool)
-    → told (Frame f) ≡ parseBy01 C s → dataByte (getD s 7 0) ≡ false → IsServicePromise code f r → r ≡ false
+    → told (Frame f) ≡ parseWhere C s → dataByte (getD s 7 0) ≡ false → IsServicePromise code f r → r ≡ false
 control-never C laws s f code r p control is =
     let of : Bool → Bool = λ d. isUnknown (apciIn C d (getD s 7 0) (getD s 8 0)) in
     is ∙ no-name (f .apci) code (ap isUnknown (apci-read C s f p) ∙ ap of control ∙ laws .unnamed (getD s 7 0))

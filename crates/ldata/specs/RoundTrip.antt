@@ -9,6 +9,7 @@ use borrow.Author.Tests.{le-ltb}
 use Rattle.wire.specs.Clash.{never}
 use Rattle.wire.specs.Told.{done, viewed, Check, verdict, judged}
 use Rattle.wire.specs.ToldLaws.{let-pass, was-accepted, is-true}
+use Rattle.wire.specs.PlaceLaws.{located-pass}
 use Rattle.wire.specs.Parts.{partOf, shown}
 use Rattle.wire.specs.PartLaws.{part-between}
 use Rattle.wire.specs.Layout.{wordOf, highOf, lowOf}
@@ -26,8 +27,8 @@ use Rattle.pci.specs.declared.application.Apci.the-variants.{Control}
 use Rattle.pci.specs.PciLaws.{byte-back, code-back}
 use Rattle.ldata.specs.Count.{Count, startOf, countBy}
 use Rattle.ldata.specs.CountLaws.{Controls, Lawful, lawful}
-use Rattle.ldata.specs.LData.{dataByte, apciIn, values, valuesIn, checks, byteChecks, told, parseBy01, ParseInPromise, dataBy01, DataPartInPromise}
-use Rattle.ldata.specs.LDataLaws.{same-kind, any-order, told-one}
+use Rattle.ldata.specs.LData.{dataByte, apciIn, values, valuesIn, checks, offsets, byteChecks, told, parseWhere, ParseInPromise, dataBy01, DataPartInPromise}
+use Rattle.ldata.specs.LDataLaws.{one-each, same-kind, accepts-either, told-one}
 use Rattle.ldata.specs.Builder.{tpciByte, apciByte, head, lead, layout, isControl, controlChecks, controlByte, controlFrame, checksIn, frameIn, BuildInPromise}
 use Rattle.ldata.specs.Builder as LDataBuilder
 use Rattle.ldata.specs.BuilderLaws.{Builds, BuildsControl}
@@ -89,8 +90,8 @@ module _ (b : LDataBuilder) (l tpci : ℕ) (a : Apci) (rest : List ℕ) (C : Cou
         ∙ ap (of from to (Transport.values (b .tpci))) apci-in
 
     -- so the record is answered
-    fields-read : apciIn C first tpci (getD rest 0 0) ≡ a → parseBy01 C frame ≡ told (Frame (made b l a))
-    fields-read apci-in = let-pass (byteChecks C frame) (done (valuesIn C frame)) accepts ∙ ap done (values-back apci-in)
+    fields-read : apciIn C first tpci (getD rest 0 0) ≡ a → parseWhere C frame ≡ told (Frame (made b l a))
+    fields-read apci-in = located-pass (byteChecks C frame) (offsets (length frame)) (done (valuesIn C frame)) (one-each C (length frame) first l) refl accepts ∙ ap done (values-back apci-in)
 
     -- and its data is what stands there
     data-there : shown frame (dataBy01 C (made b l a) frame) ≡ partOf frame (startOf first) (C .endOf l)
@@ -132,10 +133,11 @@ module _ (b : LDataBuilder) (n m : ℕ) (builds : Builds b n m) where
 
     passes : verdict (checks C (length whole) (dataByte (tpciByte b)) l) ≡ Accept
     passes =
-        ap (λ (k : Bool). verdict (checks C (length whole) k l)) data-byte ∙ any-order C (length whole) true l
-        ∙ simp (le-ltb (length whole) (C .least) (omega (arith, laws .nine, long)), le-ltb (length whole) (C .endOf l) (omega (arith, laws .ends n, long)), laws .fits n (builds .data-253))
+        ap (λ (k : Bool). verdict (checks C (length whole) k l)) data-byte
+        ∙ accepts-either C (length whole) true l
+        (simp (le-ltb (length whole) (C .least) (omega (arith, laws .nine, long)), le-ltb (length whole) (C .endOf l) (omega (arith, laws .ends n, long)), laws .fits n (builds .data-253)))
 
-    data-fields-back : parseBy01 C whole ≡ told (Frame (built b l))
+    data-fields-back : parseWhere C whole ≡ told (Frame (built b l))
     data-fields-back = fields-read b l (tpciByte b) (apciOf (b .«apci_code»)) (apciByte b ∷ d ++ rest) C tpci-in passes (apci-in C)
 
     data-data-back : shown whole (dataBy01 C (built b l) whole) ≡ d
@@ -167,10 +169,11 @@ module _ (b : LDataBuilder) (n m : ℕ) (builds : BuildsControl b n m) (control 
 
     control-passes : verdict (checks C (length control-whole) (dataByte (controlByte b)) 0) ≡ Accept
     control-passes =
-        ap (λ (k : Bool). verdict (checks C (length control-whole) k 0)) control-byte ∙ any-order C (length control-whole) false 0
-        ∙ simp (le-ltb (length control-whole) (C .least) (omega (arith, laws .enough)), le-ltb (length control-whole) (C .endOf 0) (omega (arith, laws .ends)), laws .fits)
+        ap (λ (k : Bool). verdict (checks C (length control-whole) k 0)) control-byte
+        ∙ accepts-either C (length control-whole) false 0
+        (simp (le-ltb (length control-whole) (C .least) (omega (arith, laws .enough)), le-ltb (length control-whole) (C .endOf 0) (omega (arith, laws .ends)), laws .fits))
 
-    control-fields-back : parseBy01 C control-whole ≡ told (Frame (controlBuilt b))
+    control-fields-back : parseWhere C control-whole ≡ told (Frame (controlBuilt b))
     control-fields-back = fields-read b 0 (controlByte b) (Control (b .«apci_code»)) rest C control-tpci-in control-passes control-apci-in
 
     control-data-back : shown control-whole (dataBy01 C (controlBuilt b) control-whole) ≡ []
@@ -184,7 +187,7 @@ module _ (b : LDataBuilder) (n m : ℕ) (builds : BuildsControl b n m) (control 
 -- the frame w of these fields and data, k bytes of it, comes back whatever follows it
 pub record ComesBack (C : Count) (b : LDataBuilder) (d w : List ℕ) (f : LDataFields) (k : ℕ) (rest : List ℕ) : Type 0 where
   pub size : length w ≡ k
-  pub fields-back : parseBy01 C (w ++ rest) ≡ told (Frame f)
+  pub fields-back : parseWhere C (w ++ rest) ≡ told (Frame f)
   pub data-back : shown (w ++ rest) (dataBy01 C f (w ++ rest)) ≡ d
   pub same-code : codeOf (f .apci) ≡ b .«apci_code»
 
@@ -265,7 +268,7 @@ module _ (c : Counting) (b : LDataBuilder) (d buf : List ℕ) (n : ℕ) (after :
 
   -- it is parsed: no premise but that the builder answered
   pub parsed : (r : LDataAnswer) → ParseInPromise c after r → r ≡ Frame (builtIn C b (length d))
-  parsed r p = told-one r (Frame (builtIn C b (length d))) (p ∙ ap (parseBy01 C) bytes ∙ back .fields-back)
+  parsed r p = told-one r (Frame (builtIn C b (length d))) (p ∙ ap (parseWhere C) bytes ∙ back .fields-back)
 
   pub round-trip : (f : LDataFields) (part : List ℕ) (six : ℕ) → ParseInPromise c after (Frame f) → DataPartInPromise c f after part → SixBitPromise (getD after 8 0) six → Back C b d n f part six
   round-trip f part six p taken sixth =

@@ -1,8 +1,8 @@
 // `LDataFrame` without its data: the fields of an L_Data frame, whose slice stands beside it as a parameter.
 ghost use mathlib.Core.Path.{_≡_};
-ghost use Rattle.wire.specs.Told.{verdict};
+ghost use Rattle.wire.specs.Places.{standing};
 ghost use Rattle.ldata.specs.Count.{countBy};
-ghost use Rattle.ldata.specs.LData.{checks, ApciPromise, ParsePromise, ParseInPromise, DataPromise, DataInPromise, DataPartPromise, DataPartInPromise, DestinationGroupPromise, DestinationIndividualPromise, IsServicePromise};
+ghost use Rattle.ldata.specs.LData.{checks, offsets, ApciPromise, ParsePromise, ParseInPromise, DataPromise, DataInPromise, DataPartPromise, DataPartInPromise, DestinationGroupPromise, DestinationIndividualPromise, IsServicePromise};
 use crate::count::Counting;
 use crate::count::data_start;
 use crate::destination::GroupAddressAnswer;
@@ -13,8 +13,9 @@ use control::ControlField1;
 use control::ControlField2;
 use pci::Apci;
 use pci::Tpci;
+use wire::Fault;
 use wire::Refusal;
-use wire::Verdict;
+use wire::Standing;
 use wire::View;
 
 pub struct LDataFields {
@@ -29,7 +30,7 @@ pub struct LDataFields {
 
 pub enum LDataAnswer {
     Frame(LDataFields),
-    Refused(Refusal),
+    Refused(Fault),
 }
 
 impl LDataFields {
@@ -51,7 +52,7 @@ impl LDataFields {
         let tpci = Tpci::from_byte(tpci_byte);
         let is_data = tpci.is_data();
         match stands(counting, data.len(), is_data, npdu_length) {
-            Verdict::Accept => {
+            Standing::Stands => {
                 let ctrl1 = ControlField1::from_u8(wire::byte_at(data, 0));
                 let ctrl2 = ControlField2::from_u8(wire::byte_at(data, 1));
                 let source = IndividualAddress::from_u16(wire::word_at(data, 2));
@@ -67,7 +68,7 @@ impl LDataFields {
                     apci,
                 })
             }
-            Verdict::Refuse(why) => LDataAnswer::Refused(why),
+            Standing::Falls(fault) => LDataAnswer::Refused(fault),
         }
     }
 
@@ -84,12 +85,13 @@ impl LDataFields {
         let tpci = self.tpci;
         let is_data = tpci.is_data();
         match stands(counting, data.len(), is_data, self.npdu_length) {
-            Verdict::Accept => View {
+            Standing::Stands => View {
                 number: 0,
                 start: data_start(is_data),
                 end: counting.data_end(self.npdu_length),
+                offset: 0,
             },
-            Verdict::Refuse(why) => View::refused(why),
+            Standing::Falls(fault) => View::refused(fault),
         }
     }
 
@@ -158,18 +160,27 @@ fn apci_of(counting: Counting, is_data: bool, byte1: u8, byte2: u8) -> Apci
     counting.control_apci(byte1)
 }
 
-// The checks of an L_Data frame over a slice of n bytes, whoever made its fields. The last two both refuse with 2, so one order of them answers for both counts.
-fn stands(counting: Counting, n: usize, is_data: bool, npdu_length: u8) -> Verdict
-    ensures { λ r. ⌜ r ≡ verdict (checks (countBy counting) n «is_data» «npdu_length») ⌝ }
+// The checks of an L_Data frame over a slice of n bytes, whoever made its fields. The last two both refuse with 2 at L, so one order of them answers for both counts.
+fn stands(counting: Counting, n: usize, is_data: bool, npdu_length: u8) -> Standing
+    ensures { λ r. ⌜ r ≡ standing (checks (countBy counting) n «is_data» «npdu_length») (offsets n) ⌝ }
 {
     if n < counting.least() {
-        return Verdict::Refuse(Refusal::BufferTooSmall);
+        return Standing::Falls(Fault {
+            why: Refusal::BufferTooSmall,
+            at: n,
+        });
     }
     if n < counting.data_end(npdu_length) {
-        return Verdict::Refuse(Refusal::InvalidFrame);
+        return Standing::Falls(Fault {
+            why: Refusal::InvalidFrame,
+            at: 6,
+        });
     }
     if counting.allows(is_data, npdu_length) {
-        return Verdict::Accept;
+        return Standing::Stands;
     }
-    Verdict::Refuse(Refusal::InvalidFrame)
+    Standing::Falls(Fault {
+        why: Refusal::InvalidFrame,
+        at: 6,
+    })
 }
