@@ -6,6 +6,7 @@ use mathlib.Core.List.{List, [], _∷_, _++_}
 use lib.ListN.{length, take, drop, getD}
 use lib.Dec.{eqb, ltb}
 use Rattle.wire.specs.Told.{Told, done, refused, Check, _⇒_, verdict, judged}
+use Rattle.wire.specs.Places.{located}
 use Rattle.wire.specs.Layout.{Field, byte, size, put, get, wordAt}
 use Rattle.wire.specs.declared.refusals.Refusal.the-variants.{InvalidAdditionalInfo}
 use Rattle.wire.specs.declared.refusals.Verdict.{Verdict}
@@ -72,6 +73,10 @@ restOf s = drop (endOf s) s
 abbrev pub checks : List ℕ → List Check
 checks s = ltb (length s) (size fields) ⇒ InvalidAdditionalInfo ∷ ltb (length s) (endOf s) ⇒ InvalidAdditionalInfo ∷ []
 
+-- beside them, the type byte's offset for both
+abbrev pub offsets : List ℕ
+offsets = 0 ∷ 0 ∷ []
+
 abbrev pub accepts : Verdict → Bool
 accepts Accept = true
 accepts (Refuse e) = false
@@ -107,6 +112,10 @@ unfilled s = ltb 0 (length (behind (length s) s))
 abbrev pub areaCheck : List ℕ → Check
 areaCheck s = unfilled s ⇒ InvalidAdditionalInfo
 
+-- beside it, the type byte of the record that does not stand: of `04 00 99` it is at 2
+abbrev pub areaOffsets : List ℕ → List ℕ
+areaOffsets s = placeOf (length s) s ∷ []
+
 -- ---- what is told
 
 -- a relative timestamp has two bytes, an extended one four; any other record has no value. `04 02 12 34` is 0x1234, `04 01 12` has none
@@ -135,6 +144,7 @@ toldRecord r = record {
   values = valuesOf (r .«info_type») (r .timestamp);
   start = r .start;
   end = r .end;
+  offset = 0;
 }
 
 -- no record
@@ -153,14 +163,19 @@ recordBy02 at s = record {
   values = valuesOf (typeOf (codeIn s)) (timestampOf (infoIn s));
   start = at + size fields;
   end = at + endOf s;
+  offset = 0;
 }
 
 -- the record at the front of the area; an empty area has none
 abbrev pub parseBy02 : List ℕ → Told
 parseBy02 s = cond (eqb (length s) 0) nothing (judged (checks s) (recordBy02 0 s))
 
+-- and where
+abbrev pub parseWhere : List ℕ → Told
+parseWhere s = located (checks s) offsets (parseBy02 s)
+
 abbrev pub ParsePromise : List ℕ → AdditionalInfoAnswer → Type 0
-ParsePromise s r = told r ≡ parseBy02 s
+ParsePromise s r = told r ≡ parseWhere s
 
 abbrev pub toldCount : CountAnswer → Told
 toldCount (CountAnswer.Count n) = done (n ∷ [])
@@ -169,8 +184,11 @@ toldCount (CountAnswer.Refused e) = refused 1 e
 abbrev pub countBy02 : List ℕ → Told
 countBy02 s = judged (areaCheck s ∷ []) (done (length (allIn s) ∷ []))
 
+abbrev pub countWhere : List ℕ → Told
+countWhere s = located (areaCheck s ∷ []) (areaOffsets s) (countBy02 s)
+
 abbrev pub CountPromise : List ℕ → CountAnswer → Type 0
-CountPromise s r = toldCount r ≡ countBy02 s
+CountPromise s r = toldCount r ≡ countWhere s
 
 -- the record behind n others, or none
 abbrev pub nthIn : List ℕ → ℕ → Told
@@ -179,8 +197,11 @@ nthIn s n = cond (ltb n (length (allIn s))) (recordBy02 (placeOf n s) (behind n 
 abbrev pub nthBy02 : List ℕ → ℕ → Told
 nthBy02 s n = judged (areaCheck s ∷ []) (nthIn s n)
 
+abbrev pub nthWhere : List ℕ → ℕ → Told
+nthWhere s n = located (areaCheck s ∷ []) (areaOffsets s) (nthBy02 s n)
+
 abbrev pub NthPromise : List ℕ → ℕ → AdditionalInfoAnswer → Type 0
-NthPromise s n r = told r ≡ nthBy02 s n
+NthPromise s n r = told r ≡ nthWhere s n
 
 -- ---- the code's parts
 

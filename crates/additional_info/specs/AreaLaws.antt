@@ -10,17 +10,20 @@ use lib.Dec.{eqb, ltb}
 use borrow.Author.Tests.{le-ltb, ltb-true, ne-eqb}
 use Rattle.wire.specs.Clash.{never}
 use Rattle.wire.specs.Refusals.{numberOf}
-use Rattle.wire.specs.Told.{Told, done, verdict, judged}
-use Rattle.wire.specs.ToldLaws.{refusalOf, numbered, never-done, holds, let-pass, was-accepted, was-refused, let-through, same, one-to-one, answerOf, back-refused}
+use Rattle.wire.specs.Told.{Told, done, nowhere, verdict, judged}
+use Rattle.wire.specs.ToldLaws.{refusalOf, numbered, never-done, holds, let-pass, was-accepted, let-through, same, one-to-one, answerOf, back-refused}
+use Rattle.wire.specs.Places.{at, standing, later}
+use Rattle.wire.specs.PlaceLaws.{located-pass, was-fallen, falls-so, all-at-0, falls-at-0, judged-nowhere}
 use Rattle.wire.specs.Refusing.{Refusing, judged-refusing}
 use Rattle.wire.specs.Parts.{partOf}
-use Rattle.wire.specs.declared.refusals.Refusal.{Refusal}
+use Rattle.wire.specs.declared.refusals.Fault.{Fault}
+use Rattle.wire.specs.declared.refusals.Standing.the-variants as Standing
 use Rattle.wire.specs.declared.refusals.Refusal.the-variants.{InvalidAdditionalInfo}
 use Rattle.wire.specs.declared.refusals.Verdict.the-variants.{Accept, Refuse}
 use Rattle.additional_info.specs.InfoType.{codeOf, typeOf}
 use Rattle.additional_info.specs.InfoTypeLaws.{code-back, typeFrom, type-back}
-use Rattle.additional_info.specs.Area.{Info, layout, Readable, codeIn, lengthIn, endOf, dataIn, infoIn, restOf, checks, accepts, stands, recordsIn, behind, allIn, placeOf, unfilled, areaCheck, timestampOf, valuedOf, valueOf, valuesOf, toldRecord, nothing, told, recordBy02, parseBy02, ParsePromise, toldCount, CountPromise, nthIn, nthBy02, NthPromise}
-use Rattle.additional_info.specs.WalkLaws.{all-taken, behind-is, fills-one, front-is, info-first, is-readable, one-more, passes, readable-passes, records-add, records-most, records-on, stands-first, stood}
+use Rattle.additional_info.specs.Area.{Info, layout, Readable, codeIn, lengthIn, endOf, dataIn, infoIn, restOf, checks, offsets, accepts, stands, recordsIn, behind, allIn, placeOf, unfilled, areaCheck, areaOffsets, timestampOf, valuedOf, valueOf, valuesOf, toldRecord, nothing, told, recordBy02, parseBy02, parseWhere, ParsePromise, toldCount, CountPromise, nthIn, nthWhere, NthPromise}
+use Rattle.additional_info.specs.WalkLaws.{all-taken, behind-is, ended, fills-one, front-is, info-first, is-readable, one-more, passes, readable-passes, records-add, records-most, records-on, refuses, stands-first, stood}
 use Rattle.additional_info.specs.declared.info_type.AdditionalInfoType.{AdditionalInfoType}
 use Rattle.additional_info.specs.declared.area.Timestamp.{Timestamp}
 use Rattle.additional_info.specs.declared.area.Timestamp.the-variants as Timestamp
@@ -29,6 +32,25 @@ use Rattle.additional_info.specs.declared.area.AdditionalInfoAnswer.{Add
 use Rattle.additional_info.specs.declared.area.AdditionalInfoAnswer.the-variants as AdditionalInfoAnswer
 use Rattle.additional_info.specs.declared.area.CountAnswer.{CountAnswer}
 use Rattle.additional_info.specs.declared.area.CountAnswer.the-variants as CountAnswer
+
+-- ---- where it was refused
+
+-- a record that does not stand is told at its own type byte, which is 0 of what was given
+pub first-where : (s : List ℕ) → parseWhere s ≡ parseBy02 s
+first-where s = all-at-0 (checks s) offsets (parseBy02 s) (omega arith, (omega arith, omega arith)) (go (eqb (length s) 0))
+  where
+    go : (b : Bool) → cond b nothing (judged (checks s) (recordBy02 0 s)) .offset ≡ 0
+    go true = refl
+    go false = judged-nowhere (checks s) (recordBy02 0 s) refl
+
+-- and in an area at its place: what the reader of a record says of what remains, moved by the place, is what the reader of the area says
+pub record-later : (s : List ℕ) → unfilled s ≡ true → standing (areaCheck s ∷ []) (areaOffsets s) ≡ later (placeOf (length s) s) (standing (checks (behind (length s) s)) offsets)
+record-later s h =
+    let here : ℕ = placeOf (length s) s in
+    let still : here ≡ here + 0 = omega arith in
+    let fall : standing (checks (behind (length s) s)) offsets ≡ Standing.Falls (nowhere InvalidAdditionalInfo) =
+    falls-at-0 (checks (behind (length s) s)) offsets InvalidAdditionalInfo (omega arith, (omega arith, omega arith)) (refuses (behind (length s) s) (ended (length s) s (omega arith))) in
+    simp h (ap (λ (o : ℕ). Standing.Falls (record { why = InvalidAdditionalInfo; at = o })) still ∙ ap (later here) (sym fall))
 
 -- ---- the record that is handed out
 
@@ -54,7 +76,7 @@ record-shows s at r p h =
 
 -- the record at the front, and what remains behind its end, are the area
 pub parse-shows : (s : List ℕ) (r : AdditionalInfo) → ParsePromise s (AdditionalInfoAnswer.Record r) → layout (shownIn s r) ++ drop (r .end) s ≡ s
-parse-shows s r p = go (eqb (length s) 0) refl p
+parse-shows s r p = go (eqb (length s) 0) refl (p ∙ first-where s)
   where
     go : (b : Bool) → eqb (length s) 0 ≡ b → toldRecord r ≡ cond b nothing (judged (checks s) (recordBy02 0 s)) → layout (shownIn s r) ++ drop (r .end) s ≡ s
     go true e q = let z : _≡_ {A = ℕ} 1 0 = ap (λ (x : Told). getD (x .values) 0 0) q in absurd (omega arith)
@@ -65,21 +87,22 @@ parse-shows s r p = go (eqb (length s) 0) refl p
         ap (λ (i : Info). layout i ++ drop (r .end) s) (record-shows s 0 r t h) ∙ ap (λ (k : ℕ). layout (infoIn s) ++ drop k s) to ∙ front-is s h
 
 -- and what a record's bytes are told as, whatever follows them
-pub reads-back : (i : Info) (rest : List ℕ) → parseBy02 (layout i ++ rest) ≡ record { number = 0; values = valuesOf (typeOf (i .code)) (timestampOf i); start = 2; end = 2 + length (i .«data») }
+pub reads-back : (i : Info) (rest : List ℕ) → parseWhere (layout i ++ rest) ≡ record { number = 0; values = valuesOf (typeOf (i .code)) (timestampOf i); start = 2; end = 2 + length (i .«data»); offset = 0 }
 reads-back i rest =
     let s : List ℕ = layout i ++ rest in
     let n : ℕ = 2 + length (i .«data») in
     let zero-end : 0 + n ≡ n = omega arith in
-    simp (ne-eqb (length s) 0 (λ z. omega arith))
+    first-where s
+    ∙ simp (ne-eqb (length s) 0 (λ z. omega arith))
     (let-pass (checks s) (recordBy02 0 s) (passes s (stands-first i rest))
-    ∙ ap (λ (j : Info). record { number = 0; values = valuesOf (typeOf (j .code)) (timestampOf j); start = 2; end = 0 + n }) (info-first i rest)
-    ∙ ap (λ (e : ℕ). record { number = 0; values = valuesOf (typeOf (i .code)) (timestampOf i); start = 2; end = e }) zero-end)
+    ∙ ap (λ (j : Info). record { number = 0; values = valuesOf (typeOf (j .code)) (timestampOf j); start = 2; end = 0 + n; offset = 0 }) (info-first i rest)
+    ∙ ap (λ (e : ℕ). record { number = 0; values = valuesOf (typeOf (i .code)) (timestampOf i); start = 2; end = e; offset = 0 }) zero-end)
 
 -- the record handed out for n is the one that stands behind n others
 pub nth-shows : (s : List ℕ) (n : ℕ) (r : AdditionalInfo) → NthPromise s n (AdditionalInfoAnswer.Record r) → drop n (allIn s) ≡ shownIn s r ∷ drop (n + 1) (allIn s)
 nth-shows s n r p = go (ltb n (length (allIn s))) refl (let-through (areaCheck s ∷ []) (nthIn s n) (toldRecord r) refl p)
   where
-    go : (b : Bool) → ltb n (length (allIn s)) ≡ b → toldRecord r ≡ cond b (recordBy02 (placeOf n s) (behind n s)) nothing → drop n (allIn s) ≡ shownIn s r ∷ drop (n + 1) (allIn s)
+    go : (b : Bool) → ltb n (length (allIn s)) ≡ b → toldRecord r ≡ at 0 (cond b (recordBy02 (placeOf n s) (behind n s)) nothing) → drop n (allIn s) ≡ shownIn s r ∷ drop (n + 1) (allIn s)
     go false e q = let z : _≡_ {A = ℕ} 1 0 = ap (λ (x : Told). getD (x .values) 0 0) q in absurd (omega arith)
     go true e q =
         let many : n < length (allIn s) = ltb-true n (length (allIn s)) e in
@@ -92,8 +115,8 @@ nth-shows s n r p = go (ltb n (length (allIn s))) refl (let-through (areaCheck s
         ap (λ (m : ℕ). recordsIn m s) x ∙ records-add (suc j) n s ∙ ap (λ (l : List Info). recordsIn n s ++ l) (records-on j (behind n s) h) in
         let front : drop n (allIn s) ≡ infoIn (behind n s) ∷ tail = ap (drop n) y ∙ drop-at (recordsIn n s) (infoIn (behind n s) ∷ tail) n full in
         let later : drop (n + 1) (allIn s) ≡ tail = sym (drop-drop 1 n (allIn s)) ∙ ap (drop 1) front in
-        let at : toldRecord r ≡ recordBy02 (placeOf n s) (drop (placeOf n s) s) = q ∙ ap (recordBy02 (placeOf n s)) (sym (behind-is n s)) in
-        let shows : shownIn s r ≡ infoIn (behind n s) = record-shows s (placeOf n s) r at (ap stands (behind-is n s) ∙ h) ∙ ap infoIn (behind-is n s) in
+        let there : toldRecord r ≡ recordBy02 (placeOf n s) (drop (placeOf n s) s) = q ∙ ap (recordBy02 (placeOf n s)) (sym (behind-is n s)) in
+        let shows : shownIn s r ≡ infoIn (behind n s) = record-shows s (placeOf n s) r there (ap stands (behind-is n s) ∙ h) ∙ ap infoIn (behind-is n s) in
         front ∙ ap (λ (i : Info). i ∷ tail) (sym shows) ∙ ap (λ (l : List Info). shownIn s r ∷ l) (sym later)
 
 -- ---- no second answer
@@ -115,14 +138,14 @@ answerFrom t =
     (cond (eqb (getD (t .values) 0 0) 1)
     (recordFrom (typeFrom (getD (t .values) 1 0) (getD (t .values) 2 0)) (timestampFrom (getD (t .values) 3 0) (getD (t .values) 4 0)) (t .start) (t .end))
     AdditionalInfoAnswer.None)
-    (AdditionalInfoAnswer.Refused (refusalOf (t .number)))
+    (AdditionalInfoAnswer.Refused (record { why = refusalOf (t .number); at = t .offset }))
 
 told-back : (r : AdditionalInfoAnswer) → answerFrom (told r) ≡ r
 told-back (AdditionalInfoAnswer.Record r) =
     ap (λ (t : AdditionalInfoType). recordFrom t (timestampFrom (valuedOf (r .timestamp)) (valueOf (r .timestamp))) (r .start) (r .end)) (type-back (r .«info_type»))
     ∙ ap (λ (x : Timestamp). recordFrom (r .«info_type») x (r .start) (r .end)) (timestamp-back (r .timestamp))
 told-back AdditionalInfoAnswer.None = refl
-told-back (AdditionalInfoAnswer.Refused e) = simp (ne-eqb (numberOf e) 0 (never-done e), numbered e .back)
+told-back (AdditionalInfoAnswer.Refused e) = simp (ne-eqb (numberOf (e .why)) 0 (never-done (e .why)), numbered (e .why) .back)
 
 pub told-one : (r q : AdditionalInfoAnswer) → told r ≡ told q → r ≡ q
 told-one = one-to-one told answerFrom told-back
@@ -155,17 +178,17 @@ module _ (s : List ℕ) where
   counted n p =
       (was-accepted (areaCheck s ∷ []) counts (done (n ∷ [])) refl p, ap (λ (t : Told). getD (t .values) 0 0) (let-through (areaCheck s ∷ []) counts (done (n ∷ [])) refl p))
 
-  pub not-counted : (e : Refusal) → CountPromise s (CountAnswer.Refused e) → verdict (areaCheck s ∷ []) ≡ Refuse e
+  pub not-counted : (e : Fault) → CountPromise s (CountAnswer.Refused e) → standing (areaCheck s ∷ []) (areaOffsets s) ≡ Standing.Falls e
   unfolding counts
-  not-counted e p = was-refused (areaCheck s ∷ []) counts 1 e refl p
+  not-counted e p = was-fallen (areaCheck s ∷ []) (areaOffsets s) counts 1 e refl p
 
   pub was-filled : (n : ℕ) → CountPromise s (CountAnswer.Count n) → unfilled s ≡ false
   was-filled n p = holds [] (unfilled s) InvalidAdditionalInfo [] (counted n p .0)
 
-  pub was-unfilled : (e : Refusal) → CountPromise s (CountAnswer.Refused e) → unfilled s ≡ true
-  was-unfilled e p = go (unfilled s) (not-counted e p)
+  pub was-unfilled : (e : Fault) → CountPromise s (CountAnswer.Refused e) → unfilled s ≡ true
+  was-unfilled e p = go (unfilled s) (falls-so (areaCheck s ∷ []) (areaOffsets s) e (not-counted e p) .0)
     where
-      go : (b : Bool) → cond b (Refuse InvalidAdditionalInfo) Accept ≡ Refuse e → b ≡ true
+      go : (b : Bool) → cond b (Refuse InvalidAdditionalInfo) Accept ≡ Refuse (e .why) → b ≡ true
       go true q = refl
       go false q = never cc
 
@@ -176,19 +199,19 @@ count-readable s n p = let k = counted s n p in let x : Readable s = is-readable
 pub readable-count : (s : List ℕ) (x : Readable s) (r : CountAnswer) → CountPromise s r → r ≡ CountAnswer.Count (length (x .records))
 readable-count s x r p =
     count-one s r (CountAnswer.Count (length (x .records))) p
-    (ap (λ (l : List Info). done (length l ∷ [])) (sym (fills-one s x)) ∙ sym (let-pass (areaCheck s ∷ []) (done (length (allIn s) ∷ [])) (readable-passes s x)))
+    (ap (λ (l : List Info). done (length l ∷ [])) (sym (fills-one s x)) ∙ sym (located-pass (areaCheck s ∷ []) (areaOffsets s) (done (length (allIn s) ∷ [])) refl refl (readable-passes s x)))
 
 -- ---- a refusal has zeros
 
-pub first-refusing : (s : List ℕ) → Refusing (parseBy02 s)
-first-refusing s = go (eqb (length s) 0)
+pub first-refusing : (s : List ℕ) → Refusing (parseWhere s)
+first-refusing s = rw (first-where s) (go (eqb (length s) 0))
   where
     go : (b : Bool) → Refusing (cond b nothing (judged (checks s) (recordBy02 0 s)))
     go true = λ some. absurd (some refl)
     go false = judged-refusing (checks s) (recordBy02 0 s) (judged (checks s) (recordBy02 0 s)) refl refl
 
-pub nth-refusing : (s : List ℕ) (n : ℕ) → Refusing (nthBy02 s n)
-nth-refusing s n = judged-refusing (areaCheck s ∷ []) (nthIn s n) (nthBy02 s n) (zero-number (ltb n (length (allIn s)))) refl
+pub nth-refusing : (s : List ℕ) (n : ℕ) → Refusing (nthWhere s n)
+nth-refusing s n = judged-refusing (areaCheck s ∷ []) (nthIn s n) (nthWhere s n) (zero-number (ltb n (length (allIn s)))) refl
   where
     zero-number : (b : Bool) → cond b (recordBy02 (placeOf n s) (behind n s)) nothing .number ≡ 0
     zero-number true = refl

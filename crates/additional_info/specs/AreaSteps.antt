@@ -6,17 +6,18 @@ use mathlib.Core.Bool.{Bool, true, false, cond}
 use mathlib.Core.List.{List, [], _∷_, _++_, append-nil}
 use lib.ListN.{length, take, drop, getD, length-append, length-drop}
 use lib.Dec.{ltb}
-use borrow.Author.Tests.{lt-ltb, le-ltb, ltb-false, ne-eqb}
-use Rattle.wire.specs.Told.{done, refused}
+use borrow.Author.Tests.{lt-ltb, le-ltb, ltb-false, eq-eqb, ne-eqb}
+use Rattle.wire.specs.Told.{done, refused, nowhere}
 use Rattle.wire.specs.ToldLaws.{let-pass, let-refuse}
+use Rattle.wire.specs.PlaceLaws.{located-pass, located-fall}
 use Rattle.wire.specs.Parts.{partOf}
 use Rattle.wire.specs.PartLaws.{part-is, part-to-end}
-use Rattle.wire.specs.declared.refusals.Refusal.{Refusal}
+use Rattle.wire.specs.declared.refusals.Fault.{Fault}
 use Rattle.wire.specs.declared.refusals.Refusal.the-variants.{InvalidAdditionalInfo}
 use Rattle.additional_info.specs.InfoType.{typeOf}
-use Rattle.additional_info.specs.Area.{Info, codeIn, lengthIn, endOf, dataIn, restOf, checks, stands, recordsIn, behind, allIn, placeOf, areaCheck, timestampOf, toldRecord, nothing, recordBy02, ParsePromise, CountPromise, nthIn, NthPromise, taken, atMost, RecordPromise, WalkPromise}
+use Rattle.additional_info.specs.Area.{Info, codeIn, lengthIn, endOf, dataIn, restOf, checks, stands, recordsIn, behind, allIn, placeOf, areaCheck, areaOffsets, timestampOf, toldRecord, nothing, recordBy02, ParsePromise, CountPromise, nthIn, NthPromise, taken, atMost, RecordPromise, WalkPromise}
 use Rattle.additional_info.specs.WalkLaws.{stopped, all-taken, behind-add, behind-is, behind-on, behind-stop, one-more, parted, passes, records-add, records-most, records-on, records-stop, refuses, stood}
-use Rattle.additional_info.specs.AreaLaws.{counted, not-counted}
+use Rattle.additional_info.specs.AreaLaws.{first-where, counted, not-counted}
 use Rattle.additional_info.specs.declared.info_type.AdditionalInfoType.{AdditionalInfoType}
 use Rattle.additional_info.specs.declared.area.Timestamp.{Timestamp}
 use Rattle.additional_info.specs.declared.area.AdditionalInfo.{AdditionalInfo}
@@ -67,12 +68,15 @@ reads s at h rest code many «data» t x part first second shown typed valued =
     shown ∙ ap (λ (l : List ℕ). partOf l 2 (2 + many)) r ∙ ap (λ (k : ℕ). partOf u 2 (2 + k)) m ∙ part-is u 2 (2 + lengthIn u) (omega arith) (stood u h .whole) ∙ ap (λ (k : ℕ). take k (drop 2 u)) n in
     rw (typed, valued, d, c, m)
 
--- the record at the front is refused, or handed out
-pub parse-refused : (s : List ℕ) → (length s ≡ 0 → ⊥) → stands s ≡ false → ParsePromise s (AdditionalInfoAnswer.Refused InvalidAdditionalInfo)
-parse-refused s some h = simp (ne-eqb (length s) 0 some) (sym (let-refuse (checks s) (recordBy02 0 s) InvalidAdditionalInfo (refuses s h)))
+-- there is none, or the record at the front is refused, or handed out
+pub parse-none : (s : List ℕ) → length s ≡ 0 → ParsePromise s AdditionalInfoAnswer.None
+parse-none s none = simp (eq-eqb (length s) 0 none) refl ∙ sym (first-where s)
+
+pub parse-refused : (s : List ℕ) → (length s ≡ 0 → ⊥) → stands s ≡ false → ParsePromise s (AdditionalInfoAnswer.Refused (nowhere InvalidAdditionalInfo))
+parse-refused s some h = simp (ne-eqb (length s) 0 some) (sym (let-refuse (checks s) (recordBy02 0 s) InvalidAdditionalInfo (refuses s h))) ∙ sym (first-where s)
 
 pub parse-read : (s : List ℕ) (r : AdditionalInfo) → (length s ≡ 0 → ⊥) → stands s ≡ true → toldRecord r ≡ recordBy02 0 s → ParsePromise s (AdditionalInfoAnswer.Record r)
-parse-read s r some h p = simp (ne-eqb (length s) 0 some) (p ∙ sym (let-pass (checks s) (recordBy02 0 s) (passes s h)))
+parse-read s r some h p = simp (ne-eqb (length s) 0 some) (p ∙ sym (let-pass (checks s) (recordBy02 0 s) (passes s h))) ∙ sym (first-where s)
 
 -- what remains behind it, as the part from its end on
 pub rest-part : (s rest : List ℕ) (n : ℕ) → n ≡ endOf s → stands s ≡ true → rest ≡ partOf s n (length s) → (rest ≡ restOf s) × (length rest + n ≡ length s)
@@ -187,19 +191,29 @@ turn n m at k s rest r few p e shown w =
     }
 
 -- all records walked past: something remains, or nothing does
-pub count-refused : (s : List ℕ) (r : Walked) → WalkPromise (length s) s r → r .at < length s → CountPromise s (CountAnswer.Refused InvalidAdditionalInfo)
-count-refused s r p h = let a = parted (length s) s .place-rest in simp (lt-ltb 0 (length (behind (length s) s)) (omega (arith, p .1)))
+pub count-refused : (s : List ℕ) (r : Walked) → WalkPromise (length s) s r → r .at < length s → CountPromise s (CountAnswer.Refused (record { why = InvalidAdditionalInfo; at = r .at }))
+count-refused s r p h =
+    let a = parted (length s) s .place-rest in
+    simp (lt-ltb 0 (length (behind (length s) s)) (omega (arith, p .1))) (ap (λ (o : ℕ). refused 1 (record { why = InvalidAdditionalInfo; at = o })) (p .1))
 
 pub count-done : (s : List ℕ) (r : Walked) → WalkPromise (length s) s r → length s ≤ r .at → CountPromise s (CountAnswer.Count (r .records))
 count-done s r p h =
     let a = parted (length s) s .place-rest in
     simp (le-ltb 0 (length (behind (length s) s)) (omega (arith, p .1))) (ap (λ (n : ℕ). done (n ∷ [])) (p .0))
 
+-- what is handed out says no offset
+nth-nowhere : (s : List ℕ) (n : ℕ) → nthIn s n .offset ≡ 0
+nth-nowhere s n = go (ltb n (length (allIn s)))
+  where
+    go : (b : Bool) → cond b (recordBy02 (placeOf n s) (behind n s)) nothing .offset ≡ 0
+    go true = refl
+    go false = refl
+
 -- behind the last record there is none
 pub nth-none : (s : List ℕ) (n m : ℕ) → CountPromise s (CountAnswer.Count m) → m ≤ n → NthPromise s n AdditionalInfoAnswer.None
 nth-none s n m p h =
     let k = counted s m p in
-    sym (let-pass (areaCheck s ∷ []) (nthIn s n) (k .0) ∙ simp (le-ltb n (length (allIn s)) (omega (arith, k .1))))
+    sym (located-pass (areaCheck s ∷ []) (areaOffsets s) (nthIn s n) refl (nth-nowhere s n) (k .0) ∙ simp (le-ltb n (length (allIn s)) (omega (arith, k .1))))
 
 -- one stands at the place behind n others, and is read there
 pub nth-stands : (s : List ℕ) (n m : ℕ) (r : Walked) → CountPromise s (CountAnswer.Count m) → n < m → WalkPromise n s r → stands (drop (r .at) s) ≡ true
@@ -210,11 +224,11 @@ pub nth-read : (s : List ℕ) (n m : ℕ) (r : Walked) (i : AdditionalInfo) → 
 nth-read s n m r i p h w q =
     let k = counted s m p in
     let at : recordBy02 (r .at) (drop (r .at) s) ≡ recordBy02 (placeOf n s) (behind n s) = ap (λ (x : ℕ). recordBy02 x (drop x s)) (w .1) ∙ ap (recordBy02 (placeOf n s)) (behind-is n s) in
-    q ∙ at ∙ sym (let-pass (areaCheck s ∷ []) (nthIn s n) (k .0) ∙ simp (lt-ltb n (length (allIn s)) (omega (arith, k .1))))
+    q ∙ at ∙ sym (located-pass (areaCheck s ∷ []) (areaOffsets s) (nthIn s n) refl (nth-nowhere s n) (k .0) ∙ simp (lt-ltb n (length (allIn s)) (omega (arith, k .1))))
 
 -- an area that is not readable has no n-th
-pub nth-refused : (s : List ℕ) (n : ℕ) (e : Refusal) → CountPromise s (CountAnswer.Refused e) → NthPromise s n (AdditionalInfoAnswer.Refused e)
-nth-refused s n e p = ap (λ (k : ℕ). refused k e) (sym (five (ltb n (length (allIn s))))) ∙ sym (let-refuse (areaCheck s ∷ []) (nthIn s n) e (not-counted s e p))
+pub nth-refused : (s : List ℕ) (n : ℕ) (e : Fault) → CountPromise s (CountAnswer.Refused e) → NthPromise s n (AdditionalInfoAnswer.Refused e)
+nth-refused s n e p = ap (λ (k : ℕ). refused k e) (sym (five (ltb n (length (allIn s))))) ∙ sym (located-fall (areaCheck s ∷ []) (areaOffsets s) (nthIn s n) e (not-counted s e p))
   where
     five : (b : Bool) → length (cond b (recordBy02 (placeOf n s) (behind n s)) nothing .values) ≡ 5
     five true = refl

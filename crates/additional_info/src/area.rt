@@ -4,6 +4,7 @@ ghost use mathlib.Core.Bool.{true};
 ghost use lib.ListN.{drop};
 ghost use Rattle.additional_info.specs.Area.{stands, taken, atMost, RecordPromise, TimestampPromise, WalkPromise, ParsePromise, CountPromise, NthPromise};
 use crate::info_type::AdditionalInfoType;
+use wire::Fault;
 use wire::Refusal;
 
 // The value of a relative timestamp; none for other types, and for timestamps of another length.
@@ -23,12 +24,12 @@ pub struct AdditionalInfo {
 pub enum AdditionalInfoAnswer {
     Record(AdditionalInfo),
     None,
-    Refused(Refusal),
+    Refused(Fault),
 }
 
 pub enum CountAnswer {
     Count(usize),
-    Refused(Refusal),
+    Refused(Fault),
 }
 
 impl AdditionalInfo {
@@ -40,7 +41,10 @@ impl AdditionalInfo {
             return AdditionalInfoAnswer::None;
         }
         if taken(area) == 0 {
-            return AdditionalInfoAnswer::Refused(Refusal::InvalidAdditionalInfo);
+            return AdditionalInfoAnswer::Refused(Fault {
+                why: Refusal::InvalidAdditionalInfo,
+                at: 0,
+            });
         }
         AdditionalInfoAnswer::Record(record_at(area, 0))
     }
@@ -52,7 +56,10 @@ pub fn count(area: &[u8]) -> CountAnswer
 {
     let all = past(area, area.len());
     if all.at < area.len() {
-        return CountAnswer::Refused(Refusal::InvalidAdditionalInfo);
+        return CountAnswer::Refused(Fault {
+            why: Refusal::InvalidAdditionalInfo,
+            at: all.at,
+        });
     }
     CountAnswer::Count(all.records)
 }
@@ -69,7 +76,7 @@ pub fn nth(area: &[u8], n: usize) -> AdditionalInfoAnswer
             let passed = past(area, n);
             AdditionalInfoAnswer::Record(record_at(area, passed.at))
         }
-        CountAnswer::Refused(why) => AdditionalInfoAnswer::Refused(why),
+        CountAnswer::Refused(fault) => AdditionalInfoAnswer::Refused(fault),
     }
 }
 

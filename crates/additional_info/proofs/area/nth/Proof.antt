@@ -32,8 +32,8 @@ record-at-requires c κs =
     let many = carried CountPromise {a = s} refl (m .1) (c .before .before .before .before .before .count .ensures) in
     nth-stands s (a .n) (m .0 .0) (c .past .result) many (c .before .if1 .left) (c .past .ensures)
 
-enum-known-why : tie.Need-enum-known-why
-enum-known-why c = search needs
+enum-known-fault : tie.Need-enum-known-fault
+enum-known-fault c = search needs
 
 returns-2 : tie.Need-returns-2
 returns-2 c =
@@ -47,8 +47,8 @@ returns-2 c =
 returns-3 : tie.Need-returns-3
 returns-3 c =
     let a = c .before .before .before .before .before .args in
-    let why = c .before .why .given in
-    nth-refused (a .area .now) (a .n) (why .0 .0) (carried CountPromise {a = a .area .now} refl (why .1) (c .before .before .before .count .ensures))
+    let fault = c .before .fault .given in
+    nth-refused (a .area .now) (a .n) (fault .0 .0) (carried CountPromise {a = a .area .now} refl (fault .1) (c .before .before .before .count .ensures))
 
 pub nth-spec : {M : Type 1} → statement M
 nth-spec =
@@ -59,6 +59,6 @@ nth-spec =
     returns
     past-requires
     record-at-requires
-    enum-known-why
+    enum-known-fault
     returns-2
     returns-3)

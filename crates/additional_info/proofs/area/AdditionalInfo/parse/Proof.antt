@@ -1,12 +1,11 @@
 -- Nothing, a record that does not stand whole, or one that does. Assumes nothing.
-use borrow.Author.Tests.{eq-eqb}
-use Rattle.additional_info.specs.AreaSteps.{none-stands, one-stands, parse-refused, parse-read}
+use Rattle.additional_info.specs.AreaSteps.{none-stands, one-stands, parse-none, parse-refused, parse-read}
 use borrow.Author.Needs.{needs}
 use Rattle.additional_info.proofs.area.AdditionalInfo.parse.Statement.{statement}
 use Rattle.additional_info.proofs.area.AdditionalInfo.parse.Tie as tie
 
 returns : tie.Need-returns
-returns c = simp (eq-eqb _ _ (c .if1 .taken))
+returns c = parse-none (c .before .before .args .area .now) (c .if1 .taken)
 
 taken-requires : tie.Need-taken-requires
 taken-requires c κs = search needs
