@@ -1,19 +1,20 @@
 -- 01, "cEMI": message code, additional length, the additional information, and what the code says the rest is; 02, 1/13: the area, and a whole frame; 2/13: L_Data in the standard count. Assumes nothing.
 use Prim.Native.Nat.{ℕ, _+_}
-use mathlib.Core.Path.{_≡_}
+use mathlib.Core.Path.{_≡_, refl}
 use mathlib.Core.Bool.{Bool, true, false, not}
 use mathlib.Core.List.{List, [], _∷_, _++_}
 use lib.ListN.{length, getD}
 use lib.Dec.{ltb}
-use Rattle.wire.specs.Told.{Told, done, viewed, refused, Check, _⇒_, verdict, judged}
+use Rattle.wire.specs.Told.{Told, done, viewed, refused, Check, _⇒_, judged}
+use Rattle.wire.specs.Places.{located, standing, moved}
 use Rattle.wire.specs.Coding.{check}
 use Rattle.wire.specs.Layout.{Field, byte, put, get}
 use Rattle.wire.specs.Writing.{Writes, room}
-use Rattle.wire.specs.Format.{Format, checksOf, readBy01}
+use Rattle.wire.specs.Format.{Format, checksOf, offsetsOf, readBy01, readWhere}
 use Rattle.wire.specs.Parts.{partOf, shown}
 use Rattle.wire.specs.Parts as Parts
 use Rattle.wire.specs.declared.refusals.Refusal.the-variants.{InvalidFrame, InvalidMessageCode}
-use Rattle.wire.specs.declared.refusals.Verdict.{Verdict}
+use Rattle.wire.specs.declared.refusals.Standing.{Standing}
 use Rattle.wire.specs.declared.refusals.Written.{Written}
 use Rattle.wire.specs.declared.parts.View.{View}
 use Rattle.constants.specs.MessageCodes.{messageCodes, codeOf}
@@ -43,7 +44,13 @@ infoIn vs = getD vs 1 0
 
 -- unknown message code (6); a record holds the code alone
 abbrev pub format : Format
-format = record { fields = fields; asks = λ vs. check messageCodes (messageIn vs) ∷ []; valuesIn = λ vs. messageIn vs ∷ [] }
+format = record {
+  fields = fields;
+  asks = λ vs. check messageCodes (messageIn vs) ∷ [];
+  askedAt = 0 ∷ [];
+  each = λ vs. refl;
+  valuesIn = λ vs. messageIn vs ∷ [];
+}
 
 abbrev pub codeIn : List ℕ → ℕ
 codeIn s = messageIn (get fields 0 s)
@@ -55,8 +62,12 @@ infoLength s = infoIn (get fields 0 s)
 abbrev pub checks : List ℕ → List Check
 checks s = checksOf format (length s) (get fields 0 s)
 
-abbrev pub StandsPromise : List ℕ → Verdict → Type 0
-StandsPromise s r = r ≡ verdict (checks s)
+-- beside them, the input's end, then the code's offset
+abbrev pub offsets : List ℕ → List ℕ
+offsets s = offsetsOf format (length s)
+
+abbrev pub StandsPromise : List ℕ → Standing → Type 0
+StandsPromise s r = r ≡ standing (checks s) (offsets s)
 
 abbrev pub told : CEMIAnswer → Told
 told (CEMIAnswer.Frame f) = done (codeOf (f .«message_code») ∷ [])
@@ -65,8 +76,12 @@ told (CEMIAnswer.Refused e) = refused 1 e
 abbrev pub parseBy01 : List ℕ → Told
 parseBy01 s = readBy01 format s
 
+-- and where
+abbrev pub parseWhere : List ℕ → Told
+parseWhere s = readWhere format s
+
 abbrev pub ParsePromise : List ℕ → CEMIAnswer → Type 0
-ParsePromise s r = told r ≡ parseBy01 s
+ParsePromise s r = told r ≡ parseWhere s
 
 abbrev pub MessageCodePromise : CEMIFrame → CEMIMessageCode → Type 0
 MessageCodePromise f r = r ≡ f .«message_code»
@@ -78,17 +93,24 @@ toldLength (InfoLengthAnswer.Length n) = done (n ∷ [])
 toldLength (InfoLengthAnswer.Refused e) = refused 1 e
 
 abbrev pub InfoLengthPromise : List ℕ → InfoLengthAnswer → Type 0
-InfoLengthPromise s r = toldLength r ≡ judged (checks s) (done (infoLength s ∷ []))
+InfoLengthPromise s r = toldLength r ≡ located (checks s) (offsets s) (judged (checks s) (done (infoLength s ∷ [])))
 
 -- input shorter than 2 + additional length (2)
 abbrev pub infoCheck : List ℕ → Check
 infoCheck s = ltb (length s) (2 + infoLength s) ⇒ InvalidFrame
 
+-- beside it, the offset of the additional length
+abbrev pub infoOffset : ℕ
+infoOffset = 1
+
 abbrev pub serviceInfoBy01 : List ℕ → Told
 serviceInfoBy01 s = judged (checks s ++ infoCheck s ∷ []) (viewed (2 + infoLength s) (length s))
 
+abbrev pub serviceInfoWhere : List ℕ → Told
+serviceInfoWhere s = located (checks s ++ infoCheck s ∷ []) (offsets s ++ infoOffset ∷ []) (serviceInfoBy01 s)
+
 abbrev pub ServiceInfoPromise : List ℕ → View → Type 0
-ServiceInfoPromise s r = Parts.told r ≡ serviceInfoBy01 s
+ServiceInfoPromise s r = Parts.told r ≡ serviceInfoWhere s
 
 abbrev pub ServiceInfoPartPromise : List ℕ → List ℕ → Type 0
 ServiceInfoPartPromise s r = r ≡ shown s (serviceInfoBy01 s)
@@ -122,12 +144,23 @@ asLDataIn C f s = judged (checks s ++ ldataChecks f s ++ byteChecks C (serviceIn
 abbrev pub asLDataBy01 : CEMIFrame → List ℕ → Told
 asLDataBy01 f s = asLDataIn crateCount f s
 
+-- beside its checks, the code's offset and the additional length's; L_Data starts behind the additional information
+abbrev pub ldataOffsets : List ℕ
+ldataOffsets = 0 ∷ infoOffset ∷ []
+
+abbrev pub restOffsets : List ℕ → List ℕ
+restOffsets s = moved (2 + infoLength s) (LData.offsets (length (serviceInfo s)))
+
+-- and where: behind four bytes of additional information, an L that is wrong is 2 at 2 + 4 + 6
+abbrev pub asLDataWhere : Count → CEMIFrame → List ℕ → Told
+asLDataWhere C f s = located (checks s ++ ldataChecks f s ++ byteChecks C (serviceInfo s)) (offsets s ++ ldataOffsets ++ restOffsets s) (asLDataIn C f s)
+
 abbrev pub AsLDataPromise : CEMIFrame → List ℕ → LDataAnswer → Type 0
-AsLDataPromise f s r = LData.told r ≡ asLDataBy01 f s
+AsLDataPromise f s r = LData.told r ≡ asLDataWhere crateCount f s
 
 -- in the count that it is given
 abbrev pub AsLDataInPromise : Counting → CEMIFrame → List ℕ → LDataAnswer → Type 0
-AsLDataInPromise c f s r = LData.told r ≡ asLDataIn (countBy c) f s
+AsLDataInPromise c f s r = LData.told r ≡ asLDataWhere (countBy c) f s
 
 -- ---- 02, 1/13: the additional information
 
@@ -135,8 +168,11 @@ AsLDataInPromise c f s r = LData.told r ≡ asLDataIn (countBy c) f s
 abbrev pub infoBy02 : List ℕ → Told
 infoBy02 s = judged (checks s ++ infoCheck s ∷ []) (viewed 2 (2 + infoLength s))
 
+abbrev pub infoWhere : List ℕ → Told
+infoWhere s = located (checks s ++ infoCheck s ∷ []) (offsets s ++ infoOffset ∷ []) (infoBy02 s)
+
 abbrev pub InfoPromise : List ℕ → View → Type 0
-InfoPromise s r = Parts.told r ≡ infoBy02 s
+InfoPromise s r = Parts.told r ≡ infoWhere s
 
 abbrev pub InfoPartPromise : List ℕ → List ℕ → Type 0
 InfoPartPromise s r = r ≡ shown s (infoBy02 s)

@@ -6,9 +6,11 @@ use mathlib.Core.List.{List, [], _∷_, _++_, append-nil}
 use lib.ListN.{length, take, drop, take-append-drop}
 use lib.Seq.{take-at, drop-drop, length-take-le}
 use lib.Dec.{ltb}
-use borrow.Author.Tests.{ltb-false}
+use borrow.Author.Tests.{le-ltb, ltb-false}
 use Rattle.wire.specs.Clash.{never}
-use Rattle.wire.specs.Told.{Told, done, viewed, Check, verdict, answer}
+use Rattle.wire.specs.Told.{Told, done, viewed, Check, verdict, answer, judged}
+use Rattle.wire.specs.Places.{located}
+use Rattle.wire.specs.PlaceLaws.{located-pass}
 use Rattle.wire.specs.ToldLaws.{let-pass, goes-on, holds, let-through, was-accepted, same}
 use Rattle.wire.specs.LayoutLaws.{length-three}
 use Rattle.wire.specs.Writing as Writing
@@ -25,25 +27,27 @@ use Rattle.wire.specs.declared.refusals.Written.the-variants.{Bytes}
 use Rattle.constants.specs.MessageCodes.{codeOf}
 use Rattle.constants.specs.MessageCodeLaws as MessageCodeLaws
 use Rattle.additional_info.specs.Appending.{areaChecks}
-use Rattle.cemi.specs.Cemi.{codeIn, infoLength, checks, told, parseBy01, infoCheck, serviceInfoBy01, ServiceInfoPromise, infoBy02, InfoPromise, layout, buildChecks, BuildPromise}
-use Rattle.cemi.specs.CemiLaws.{by-code, long-enough}
+use Rattle.cemi.specs.Cemi.{codeIn, infoLength, checks, offsets, told, parseWhere, infoCheck, infoOffset, serviceInfoBy01, serviceInfoWhere, ServiceInfoPromise, infoBy02, infoWhere, InfoPromise, layout, buildChecks, BuildPromise}
+use Rattle.cemi.specs.CemiLaws.{long-enough}
 use Rattle.cemi.specs.declared.CEMIFrame.{CEMIFrame}
 use Rattle.cemi.specs.declared.CEMIAnswer.the-variants as CEMIAnswer
 
 -- ---- the additional information
 
 -- it ends where the service information starts, and is refused as that is
-pub before-service : (s : List ℕ) (v : View) → ServiceInfoPromise s v → v .number ≡ 0 → InfoPromise s (record { number = 0; start = 2; end = v .start })
+pub before-service : (s : List ℕ) (v : View) → ServiceInfoPromise s v → v .number ≡ 0 → InfoPromise s (record { number = 0; start = 2; end = v .start; offset = 0 })
 before-service s v p z =
     let cs : List Check = checks s ++ infoCheck s ∷ [] in
     let behind : Told = viewed (2 + infoLength s) (length s) in
     let here : Told = viewed 2 (2 + infoLength s) in
-    ap (λ (e : ℕ). viewed 2 e) (ap (λ (t : Told). t .start) (let-through cs behind (Parts.told v) z p)) ∙ sym (let-pass cs here (was-accepted cs behind (Parts.told v) z p))
+    ap (λ (e : ℕ). viewed 2 e) (ap (λ (t : Told). t .start) (let-through cs behind (Parts.told v) z p))
+    ∙ sym (located-pass cs (offsets s ++ infoOffset ∷ []) here refl refl (was-accepted cs behind (Parts.told v) z p))
 
 pub no-service : (s : List ℕ) (v : View) → ServiceInfoPromise s v → (v .number ≡ 0 → ⊥) → InfoPromise s v
 no-service s v p some = go (verdict (checks s ++ infoCheck s ∷ [])) p
   where
-    go : (w : Verdict) → Parts.told v ≡ answer w (viewed (2 + infoLength s) (length s)) → Parts.told v ≡ answer w (viewed 2 (2 + infoLength s))
+    go : (w : Verdict) → Parts.told v ≡ located (checks s ++ infoCheck s ∷ []) (offsets s ++ infoOffset ∷ []) (answer w (viewed (2 + infoLength s) (length s)))
+        → Parts.told v ≡ located (checks s ++ infoCheck s ∷ []) (offsets s ++ infoOffset ∷ []) (answer w (viewed 2 (2 + infoLength s)))
     go Accept q = absurd (some (ap (λ (t : Told). t .number) q))
     go (Refuse e) q = q
 
@@ -57,10 +61,10 @@ piece-by-piece f area rest head b r after e q p =
 -- built, then parsed, whatever the rest of the buffer held: the code, the area and the rest come back
 pub record Built (f : CEMIFrame) (area rest w : List ℕ) : Type 0 where
   pub bytes : w ≡ layout (codeOf (f .«message_code»)) area rest
-  pub code-back : parseBy01 w ≡ told (CEMIAnswer.Frame f)
-  pub area-view : infoBy02 w ≡ viewed 2 (2 + length area)
+  pub code-back : parseWhere w ≡ told (CEMIAnswer.Frame f)
+  pub area-view : infoWhere w ≡ viewed 2 (2 + length area)
   pub area-back : shown w (infoBy02 w) ≡ area
-  pub rest-view : serviceInfoBy01 w ≡ viewed (2 + length area) (length w)
+  pub rest-view : serviceInfoWhere w ≡ viewed (2 + length area) (length w)
   pub rest-back : shown w (serviceInfoBy01 w) ≡ rest
 
 pub built : (f : CEMIFrame) (area rest b : List ℕ) (n : ℕ) (after : List ℕ) → BuildPromise f area rest b (Bytes n) after → Built f area rest (take n after)
@@ -70,13 +74,14 @@ built f area rest b n after p =
     let o = WritingLaws.wrote (buildChecks area (length rest) (length b)) w b n after p in
     let e : take n after ≡ w = ap (take n) (o .bytes) ∙ take-at w (drop (length w) b) n (sym (o .count)) in
     let long : length w ≡ 2 + length area + length rest = length-three (code ∷ length area ∷ []) area rest in
-    let known : verdict (checks w) ≡ Accept = by-code w (omega arith) ∙ simp (MessageCodeLaws.known (f .«message_code»)) in
+    let known : verdict (checks w) ≡ Accept = simp (le-ltb (length w) 2 (omega arith), MessageCodeLaws.known (f .«message_code»)) in
     let all : verdict (checks w ++ infoCheck w ∷ []) ≡ Accept = goes-on (checks w) (infoCheck w ∷ []) known ∙ long-enough w (length area) refl (omega arith) in
-    let area-is : infoBy02 w ≡ viewed 2 (2 + length area) = let-pass (checks w ++ infoCheck w ∷ []) (viewed 2 (2 + length area)) all in
-    let rest-is : serviceInfoBy01 w ≡ viewed (2 + length area) (length w) = let-pass (checks w ++ infoCheck w ∷ []) (viewed (2 + length area) (length w)) all in
+    let passes : (t : Told) → t .offset ≡ 0 → located (checks w ++ infoCheck w ∷ []) (offsets w ++ infoOffset ∷ []) (judged (checks w ++ infoCheck w ∷ []) t) ≡ t = λ t z. located-pass (checks w ++ infoCheck w ∷ []) (offsets w ++ infoOffset ∷ []) t refl z all in
+    let area-is : infoWhere w ≡ viewed 2 (2 + length area) = passes (viewed 2 (2 + length area)) refl in
+    let rest-is : serviceInfoWhere w ≡ viewed (2 + length area) (length w) = passes (viewed (2 + length area) (length w)) refl in
     let made : Built f area rest w = record {
       bytes = refl;
-      code-back = let-pass (checks w) (done (code ∷ [])) known;
+      code-back = located-pass (checks w) (offsets w) (done (code ∷ [])) refl refl known;
       area-view = area-is;
       area-back = ap (shown w) area-is ∙ PartLaws.part-between (code ∷ length area ∷ []) area rest 2 (2 + length area) refl refl;
       rest-view = rest-is;

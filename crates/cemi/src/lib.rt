@@ -5,7 +5,9 @@ use constants::CEMIMessageCodeAnswer;
 use ldata::Counting;
 use ldata::LDataAnswer;
 use ldata::LDataFields;
+use wire::Fault;
 use wire::Refusal;
+use wire::Standing;
 use wire::Verdict;
 use wire::View;
 use wire::Written;
@@ -16,12 +18,12 @@ pub struct CEMIFrame {
 
 pub enum CEMIAnswer {
     Frame(CEMIFrame),
-    Refused(Refusal),
+    Refused(Fault),
 }
 
 pub enum InfoLengthAnswer {
     Length(u8),
-    Refused(Refusal),
+    Refused(Fault),
 }
 
 impl CEMIFrame {
@@ -31,13 +33,16 @@ impl CEMIFrame {
         ensures { λ r. ⌜ ParsePromise (now («data» .entry)) r ⌝ }
     {
         if data.len() < CEMIFrame::MIN_SIZE {
-            return CEMIAnswer::Refused(Refusal::BufferTooSmall);
+            return CEMIAnswer::Refused(Fault {
+                why: Refusal::BufferTooSmall,
+                at: data.len(),
+            });
         }
         match CEMIMessageCode::from_u8(data[0]) {
             CEMIMessageCodeAnswer::Code(message_code) => CEMIAnswer::Frame(CEMIFrame {
                 message_code,
             }),
-            CEMIMessageCodeAnswer::Refused(why) => CEMIAnswer::Refused(why),
+            CEMIMessageCodeAnswer::Refused(fault) => CEMIAnswer::Refused(fault),
         }
     }
 
@@ -51,8 +56,8 @@ impl CEMIFrame {
         ensures { λ r. ⌜ InfoLengthPromise (now («data» .entry)) r ⌝ }
     {
         match stands(data) {
-            Verdict::Accept => InfoLengthAnswer::Length(wire::byte_at(data, 1)),
-            Verdict::Refuse(why) => InfoLengthAnswer::Refused(why),
+            Standing::Stands => InfoLengthAnswer::Length(wire::byte_at(data, 1)),
+            Standing::Falls(fault) => InfoLengthAnswer::Refused(fault),
         }
     }
 
@@ -61,18 +66,22 @@ impl CEMIFrame {
         ensures { λ r. ⌜ ServiceInfoPromise (now («data» .entry)) r ⌝ }
     {
         match stands(data) {
-            Verdict::Accept => {
+            Standing::Stands => {
                 let start = 2 + wire::byte_at(data, 1) as usize;
                 if data.len() < start {
-                    return View::refused(Refusal::InvalidFrame);
+                    return View::refused(Fault {
+                        why: Refusal::InvalidFrame,
+                        at: 1,
+                    });
                 }
                 View {
                     number: 0,
                     start,
                     end: data.len(),
+                    offset: 0,
                 }
             }
-            Verdict::Refuse(why) => View::refused(why),
+            Standing::Falls(fault) => View::refused(fault),
         }
     }
 
@@ -96,17 +105,33 @@ impl CEMIFrame {
         ensures { λ r. ⌜ AsLDataInPromise counting self (now («data» .entry)) r ⌝ }
     {
         match stands(data) {
-            Verdict::Accept => {
+            Standing::Stands => {
                 if !self.is_ldata() {
-                    return LDataAnswer::Refused(Refusal::InvalidMessageCode);
+                    return LDataAnswer::Refused(Fault {
+                        why: Refusal::InvalidMessageCode,
+                        at: 0,
+                    });
                 }
                 let start = 2 + wire::byte_at(data, 1) as usize;
                 if data.len() < start {
-                    return LDataAnswer::Refused(Refusal::InvalidFrame);
+                    return LDataAnswer::Refused(Fault {
+                        why: Refusal::InvalidFrame,
+                        at: 1,
+                    });
                 }
-                LDataFields::parse_in(counting, wire::part(data, start, data.len()))
+                let answer = LDataFields::parse_in(counting, wire::part(data, start, data.len()));
+                match answer {
+                    LDataAnswer::Frame(_) => answer,
+                    LDataAnswer::Refused(fault) => {
+                        let why = fault.why;
+                        LDataAnswer::Refused(Fault {
+                            why,
+                            at: start + fault.at,
+                        })
+                    }
+                }
             }
-            Verdict::Refuse(why) => LDataAnswer::Refused(why),
+            Standing::Falls(fault) => LDataAnswer::Refused(fault),
         }
     }
 
@@ -137,6 +162,7 @@ impl CEMIFrame {
             number: 0,
             start: CEMIFrame::MIN_SIZE,
             end: behind.start,
+            offset: 0,
         }
     }
 
@@ -164,11 +190,11 @@ impl CEMIFrame {
 }
 
 // The checks of a parse, which every accessor that reads through the slice repeats.
-fn stands(data: &[u8]) -> Verdict
+fn stands(data: &[u8]) -> Standing
     ensures { λ r. ⌜ StandsPromise (now («data» .entry)) r ⌝ }
 {
     match CEMIFrame::parse(data) {
-        CEMIAnswer::Frame(_) => Verdict::Accept,
-        CEMIAnswer::Refused(why) => Verdict::Refuse(why),
+        CEMIAnswer::Frame(_) => Standing::Stands,
+        CEMIAnswer::Refused(fault) => Standing::Falls(fault),
     }
 }
