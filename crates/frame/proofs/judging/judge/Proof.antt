@@ -4,7 +4,8 @@ use mathlib.Core.Path.{refl, ap, sym, _∙_}
 use mathlib.Core.List.{[], _∷_}
 use lib.ListN.{length}
 use Rattle.wire.specs.Told.{Told, done}
-use Rattle.wire.specs.ToldLaws.{carried, let-pass, let-refuse, let-through, was-accepted, was-refused}
+use Rattle.wire.specs.ToldLaws.{carried, let-through, was-accepted}
+use Rattle.wire.specs.PlaceLaws.{located-pass, located-fall, was-fallen}
 use Rattle.wire.specs.Layout.{get}
 use Rattle.header.specs.Header.{fields, serviceIn, totalIn}
 use Rattle.frame.specs.Frame as Frame
@@ -22,8 +23,8 @@ enum-known-frame c = search needs
 word-at-requires : tie.Need-word-at-requires
 word-at-requires c κs = search needs
 
-enum-known-why : tie.Need-enum-known-why
-enum-known-why c = search needs
+enum-known-fault : tie.Need-enum-known-fault
+enum-known-fault c = search needs
 
 number-requires : tie.Need-number-requires
 number-requires c κs = search needs
@@ -41,18 +42,19 @@ returns c =
     let passed = was-accepted cs (done vs) t refl p in
     ap (λ (code : ℕ). done (code ∷ f .header .«total_length» ∷ [])) (c .word-at .ensures)
     ∙ ap (λ (u : Told). done (serviceIn vs ∷ totalIn (u .values) ∷ [])) same
-    ∙ sym (let-pass cs (done (serviceIn vs ∷ totalIn vs ∷ [])) passed)
+    ∙ sym (located-pass cs (Frame.offsets (length s)) (done (serviceIn vs ∷ totalIn vs ∷ [])) refl refl passed)
 
 returns-2 : tie.Need-returns-2
 returns-2 c =
     let s = c .before .before .before .before .before .before .args .bytes .now in
     let vs = get fields 0 s in
     let cs = Frame.checks (length s) vs in
-    let why = c .before .before .why .given in
-    let e = why .0 .0 in
-    let p = carried Frame.ParsePromise {a = s} refl (why .1) (c .before .before .before .before .parse .ensures) in
-    ap (λ (k : ℕ). record { number = k; values = 0 ∷ 0 ∷ []; start = 0; end = 0 }) (c .number .ensures)
-    ∙ sym (let-refuse cs (done (serviceIn vs ∷ totalIn vs ∷ [])) e (was-refused cs (done vs) 4 e refl p))
+    let os = Frame.offsets (length s) in
+    let fault = c .before .before .fault .given in
+    let e = fault .0 .0 in
+    let p = carried Frame.ParsePromise {a = s} refl (fault .1) (c .before .before .before .before .parse .ensures) in
+    ap (λ (k : ℕ). record { number = k; values = 0 ∷ 0 ∷ []; start = 0; end = 0; offset = e .at }) (c .number .ensures)
+    ∙ sym (located-fall cs os (done (serviceIn vs ∷ totalIn vs ∷ [])) e (was-fallen cs os (done vs) 4 e refl p))
 
 pub judge-spec : {M : Type 1} → statement M
 judge-spec =
@@ -61,7 +63,7 @@ judge-spec =
     parse-requires
     enum-known-frame
     word-at-requires
-    enum-known-why
+    enum-known-fault
     number-requires
     returns
     returns-2)

@@ -19,11 +19,11 @@ stands-requires c κs = search needs
 enum-told : tie.Need-enum-told
 enum-told c = search needs
 
-enum-known-why : tie.Need-enum-known-why
-enum-known-why c = search needs
+enum-known-fault : tie.Need-enum-known-fault
+enum-known-fault c = search needs
 
-enum-known-why-2 : tie.Need-enum-known-why-2
-enum-known-why-2 c = search needs
+enum-known-fault-2 : tie.Need-enum-known-fault-2
+enum-known-fault-2 c = search needs
 
 returns : tie.Need-returns
 returns c =
@@ -37,15 +37,15 @@ returns-2 c =
     let at-parse = c .before .before .before .before .before .before .before in
     let s = at-parse .before .before .args .«data» .now in
     let header = c .before .before .before .before .before .header .given in
-    let why = c .before .why .given in
-    fell s (header .0 .0) (carried ParsePromise {a = s} refl (header .1) (at-parse .parse .ensures)) (why .0 .0) (sym (c .before .before .before .stands .ensures) ∙ why .1)
+    let fault = c .before .fault .given in
+    fell s (header .0 .0) (carried ParsePromise {a = s} refl (header .1) (at-parse .parse .ensures)) (fault .0 .0) (sym (c .before .before .before .stands .ensures) ∙ fault .1)
 
 returns-3 : tie.Need-returns-3
 returns-3 c =
     let at-parse = c .before .before .before in
     let s = at-parse .before .before .args .«data» .now in
-    let why = c .before .why2 .given in
-    no-header s (why .0 .0) (carried ParsePromise {a = s} refl (why .1) (at-parse .parse .ensures))
+    let fault = c .before .fault2 .given in
+    no-header s (fault .0 .0) (carried ParsePromise {a = s} refl (fault .1) (at-parse .parse .ensures))
 
 pub parse-spec : {M : Type 1} → statement M
 parse-spec =
@@ -55,8 +55,8 @@ parse-spec =
     enum-known-header
     stands-requires
     enum-told
-    enum-known-why
-    enum-known-why-2
+    enum-known-fault
+    enum-known-fault-2
     returns
     returns-2
     returns-3)
