@@ -1,13 +1,13 @@
 -- 01, "`Hpai`": 8 bytes: length, protocol, address (4), port. Assumes nothing.
 use Prim.Native.Nat.{ℕ}
-use mathlib.Core.Path.{_≡_}
+use mathlib.Core.Path.{_≡_, refl}
 use mathlib.Core.List.{List, [], _∷_, _++_}
 use lib.ListN.{length, getD}
 use Rattle.wire.specs.Told.{Told, refused, Check, _⇒_, differs}
 use Rattle.wire.specs.Writing.{Writes, room}
 use Rattle.wire.specs.Layout.{Field, byte, word, run, size, put}
-use Rattle.wire.specs.Format.{Format, checksOf, readBy01}
-use Rattle.wire.specs.declared.refusals.Refusal.{Refusal}
+use Rattle.wire.specs.Format.{Format, checksOf, offsetsOf, readBy01, readWhere}
+use Rattle.wire.specs.declared.refusals.Fault.{Fault}
 use Rattle.wire.specs.declared.refusals.Refusal.the-variants.{InvalidFrame}
 use Rattle.wire.specs.declared.refusals.Written.{Written}
 use Rattle.constants.specs.Constants.{ipv4Udp}
@@ -33,23 +33,37 @@ lengthIn vs = getD vs 0 0
 
 -- length byte not 8 (2); the protocol byte is not checked
 abbrev pub format : Format
-format = record { fields = fields; asks = λ vs. differs (lengthIn vs) (size fields) ⇒ InvalidFrame ∷ []; valuesIn = λ vs. vs }
+format = record {
+  fields = fields;
+  asks = λ vs. differs (lengthIn vs) (size fields) ⇒ InvalidFrame ∷ [];
+  askedAt = 0 ∷ [];
+  each = λ vs. refl;
+  valuesIn = λ vs. vs;
+}
 
 -- of an input of n bytes with these values: fewer than 8 (1), then that
 abbrev pub checks : ℕ → List ℕ → List Check
 checks n vs = checksOf format n vs
 
+-- beside them, the input's end, then the length byte's offset
+abbrev pub offsets : ℕ → List ℕ
+offsets n = offsetsOf format n
+
 abbrev pub told : HpaiAnswer → Told
-told r = record { number = r .number; values = values (r .hpai); start = 0; end = 0 }
+told r = record { number = r .number; values = values (r .hpai); start = 0; end = 0; offset = r .offset }
 
 abbrev pub parseBy01 : List ℕ → Told
 parseBy01 s = readBy01 format s
 
+-- and where
+abbrev pub parseWhere : List ℕ → Told
+parseWhere s = readWhere format s
+
 abbrev pub ParsePromise : List ℕ → HpaiAnswer → Type 0
-ParsePromise s r = told r ≡ parseBy01 s
+ParsePromise s r = told r ≡ parseWhere s
 
 -- seven zeros beside the number
-abbrev pub RefusedPromise : Refusal → HpaiAnswer → Type 0
+abbrev pub RefusedPromise : Fault → HpaiAnswer → Type 0
 RefusedPromise e r = told r ≡ refused 7 e
 
 -- for IPv4 over UDP

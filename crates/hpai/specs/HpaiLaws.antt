@@ -14,7 +14,7 @@ use Rattle.wire.specs.LayoutLaws.{Bytes, run-all, length-put}
 use Rattle.wire.specs.WritingLaws.{writes-one, wrote}
 use Rattle.wire.specs.declared.refusals.Written.{Written}
 use Rattle.wire.specs.declared.refusals.Written.the-variants as Written
-use Rattle.hpai.specs.Hpai.{fields, format, values, layout, told, parseBy01, ParsePromise, encodeChecks, EncodePromise}
+use Rattle.hpai.specs.Hpai.{fields, format, values, layout, told, parseWhere, ParsePromise, encodeChecks, EncodePromise}
 use Rattle.hpai.specs.declared.Hpai.{Hpai}
 use Rattle.hpai.specs.declared.HpaiAnswer.{HpaiAnswer}
 
@@ -49,7 +49,7 @@ hpai-of-values h =
     rw (k, take-append-seam ip (h .port ∷ []), getD-append-seam ip (h .port) [] 0)
 
 pub told-one : (r q : HpaiAnswer) → told r ≡ told q → r ≡ q
-told-one = one-to-one told (λ t. record { number = t .number; hpai = hpaiOf (t .values) }) (λ r. ap (λ (h : Hpai). record { number = r .number; hpai = h }) (hpai-of-values (r .hpai)))
+told-one = one-to-one told (λ t. record { number = t .number; hpai = hpaiOf (t .values); offset = t .offset }) (λ r. ap (λ (h : Hpai). record { number = r .number; hpai = h; offset = r .offset }) (hpai-of-values (r .hpai)))
 
 pub parse-one : (s : List ℕ) (r q : HpaiAnswer) → ParsePromise s r → ParsePromise s q → r ≡ q
 parse-one s r q a b = told-one r q (same a b)
@@ -66,15 +66,15 @@ pub record Proper (h : Hpai) : Type 0 where
   pub address-4 : length (h .«ip_address») ≡ 4
 
 abbrev pub accepted : Hpai → HpaiAnswer
-accepted h = record { number = 0; hpai = h }
+accepted h = record { number = 0; hpai = h; offset = 0 }
 
-pub reads-back : (h : Hpai) (rest : List ℕ) → Proper h → parseBy01 (layout h ++ rest) ≡ told (accepted h)
+pub reads-back : (h : Hpai) (rest : List ℕ) → Proper h → parseWhere (layout h ++ rest) ≡ told (accepted h)
 reads-back h rest p = FormatLaws.reads-back format (values h) rest (length-values h (p .address-4)) (simp (eq-eqb _ _ (p .length-8)))
 
 pub encode-parse : (h : Hpai) (b : List ℕ) (n : ℕ) (after : List ℕ) (r : HpaiAnswer)
     → Proper h → EncodePromise h b (Written.Bytes n) after → ParsePromise after r → r ≡ accepted h
 encode-parse h b n after r p e q =
-    told-one r (accepted h) (q ∙ ap parseBy01 (wrote (encodeChecks (length b)) (layout h) b n after e .bytes) ∙ reads-back h (drop (length (layout h)) b) p)
+    told-one r (accepted h) (q ∙ ap parseWhere (wrote (encodeChecks (length b)) (layout h) b n after e .bytes) ∙ reads-back h (drop (length (layout h)) b) p)
 
 -- ---- read, then written
 

@@ -1,6 +1,7 @@
 // Host protocol address information: frame.rs, `Hpai`. It holds an array, so its answer is a struct with the number beside it.
 ghost use Rattle.hpai.specs.Hpai.{NewPromise, ParsePromise, EncodePromise, ToBytesPromise, RefusedPromise};
 use constants::IPV4_UDP;
+use wire::Fault;
 use wire::Refusal;
 use wire::Written;
 
@@ -14,6 +15,7 @@ pub struct Hpai {
 pub struct HpaiAnswer {
     pub number: u8,
     pub hpai: Hpai,
+    pub offset: usize,
 }
 
 impl Hpai {
@@ -34,11 +36,17 @@ impl Hpai {
         ensures { λ r. ⌜ ParsePromise (now («data» .entry)) r ⌝ }
     {
         if data.len() < Self::SIZE {
-            return refused(Refusal::BufferTooSmall);
+            return refused(Fault {
+                why: Refusal::BufferTooSmall,
+                at: data.len(),
+            });
         }
         let structure_length = data[0];
         if structure_length != 8 {
-            return refused(Refusal::InvalidFrame);
+            return refused(Fault {
+                why: Refusal::InvalidFrame,
+                at: 0,
+            });
         }
         let ip_address = [data[2], data[3], data[4], data[5]];
         let port = wire::word_at(data, 6);
@@ -48,7 +56,11 @@ impl Hpai {
             ip_address,
             port,
         };
-        HpaiAnswer { number: 0, hpai }
+        HpaiAnswer {
+            number: 0,
+            hpai,
+            offset: 0,
+        }
     }
 
     // Writes the fields as they are, the length too.
@@ -76,9 +88,10 @@ impl Hpai {
     }
 }
 
-fn refused(why: Refusal) -> HpaiAnswer
-    ensures { λ r. ⌜ RefusedPromise why r ⌝ }
+fn refused(fault: Fault) -> HpaiAnswer
+    ensures { λ r. ⌜ RefusedPromise fault r ⌝ }
 {
+    let why = fault.why;
     let number = why.number();
     let hpai = Hpai {
         structure_length: 0,
@@ -86,5 +99,9 @@ fn refused(why: Refusal) -> HpaiAnswer
         ip_address: [0, 0, 0, 0],
         port: 0,
     };
-    HpaiAnswer { number, hpai }
+    HpaiAnswer {
+        number,
+        hpai,
+        offset: fault.at,
+    }
 }
