@@ -1,12 +1,12 @@
 -- What an acknowledgement is on the wire, as one record of definitions, with its two instances: 01's, which is the crate's, and KNX's own (03_08_04). What does not depend on them is proved over any such record. Assumes nothing.
 use Prim.Native.Nat.{ℕ, _+_}
-use mathlib.Core.Path.{_≡_}
+use mathlib.Core.Path.{_≡_, refl}
 use mathlib.Core.List.{List, [], _∷_, _++_}
 use lib.ListN.{length, getD}
 use Rattle.wire.specs.Told.{Told, Check}
 use Rattle.wire.specs.Writing.{Writes, room}
 use Rattle.wire.specs.Layout.{Field, size, put}
-use Rattle.wire.specs.Format.{Format, checksOf, readBy01}
+use Rattle.wire.specs.Format.{Format, checksOf, offsetsOf, readWhere}
 use Rattle.wire.specs.declared.refusals.Written.{Written}
 use Rattle.constants.specs.Constants.{headerSize}
 use Rattle.constants.specs.declared.services.ServiceType.the-variants.{TunnellingAck}
@@ -68,14 +68,18 @@ module _ (F : AckForm) where
 
   -- nothing is asked of the values
   abbrev pub format : Format
-  format = record { fields = F .fields; asks = λ vs. []; valuesIn = valuesIn }
+  format = record { fields = F .fields; asks = λ vs. []; askedAt = []; each = λ vs. refl; valuesIn = valuesIn }
 
   -- a body of fewer bytes than the form has (1), 5 in the crate's, 4 in KNX's; a longer one is accepted
   abbrev pub checks : ℕ → List Check
   checks n = checksOf format n []
 
+  -- beside it, the body's end
+  abbrev pub offsets : ℕ → List ℕ
+  offsets n = offsetsOf format n
+
   abbrev pub parsed : List ℕ → Told
-  parsed s = readBy01 format s
+  parsed s = readWhere format s
 
 abbrev pub BuildInPromise : Form → TunnelingAck → List ℕ → Written → List ℕ → Type 0
 BuildInPromise f a b r after = Writes (buildChecks (formBy f) (length b)) (frame TunnellingAck (layout (formBy f) a)) b r after

@@ -20,18 +20,18 @@ returns c =
     let a = c .before .before .before .args in
     simp (lt-ltb (length (a .«data» .now)) (bodySize (formBy (a .form))) (omega (arith, c .if1 .taken, c .before .status-at .ensures, lawful (a .form) .last)))
 
-shared-slice-read-t9 : tie.Need-shared-slice-read-t9
-shared-slice-read-t9 c =
+shared-slice-read-t11 : tie.Need-shared-slice-read-t11
+shared-slice-read-t11 c =
     let behind = lawful (c .before .before .before .before .args .form) .behind in
     omega (arith, c .before .if1 .left, c .before .before .status-at .ensures, behind)
 
-shared-slice-read-t11 : tie.Need-shared-slice-read-t11
-shared-slice-read-t11 c =
+shared-slice-read-t13 : tie.Need-shared-slice-read-t13
+shared-slice-read-t13 c =
     let behind = lawful (c .before .before .before .before .before .args .form) .behind in
     omega (arith, c .before .before .if1 .left, c .before .before .before .status-at .ensures, behind)
 
-shared-slice-read-t9-2 : tie.Need-shared-slice-read-t9-2
-shared-slice-read-t9-2 c = search needs
+shared-slice-read-t11-2 : tie.Need-shared-slice-read-t11-2
+shared-slice-read-t11-2 c = search needs
 
 returns-2 : tie.Need-returns-2
 returns-2 c =
@@ -48,7 +48,7 @@ parse-in-spec =
     (tie.spec
     status-at-requires
     returns
-    shared-slice-read-t9
     shared-slice-read-t11
-    shared-slice-read-t9-2
+    shared-slice-read-t13
+    shared-slice-read-t11-2
     returns-2)
