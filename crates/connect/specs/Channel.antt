@@ -1,14 +1,15 @@
 -- Connection state and disconnect: requests of 16 bytes, a shorter buffer is 1; responses need 2 bytes. Each shape is said once. Behind 01's, what a host needs where the gateway is the one to disconnect. Assumes nothing.
 use Prim.Native.Nat.{ℕ}
-use mathlib.Core.Path.{_≡_}
+use mathlib.Core.Path.{_≡_, refl}
 use mathlib.Core.Bool.{Bool}
 use mathlib.Core.List.{List, [], _∷_, _++_}
 use lib.ListN.{length, getD, drop, replicate}
 use lib.Dec.{eqb}
 use Rattle.wire.specs.Told.{Told, done, refused, Check}
+use Rattle.wire.specs.Places.{moved}
 use Rattle.wire.specs.Writing.{Writes, room}
 use Rattle.wire.specs.Layout.{Field, byte, size, put}
-use Rattle.wire.specs.Format.{Format, readBy01}
+use Rattle.wire.specs.Format.{Format, readBy01, readWhere}
 use Rattle.wire.specs.declared.refusals.Written.{Written}
 use Rattle.constants.specs.declared.services.ServiceType.{ServiceType}
 use Rattle.constants.specs.declared.services.ServiceType.the-variants as ServiceType
@@ -58,10 +59,14 @@ statusFields = byte ∷ byte ∷ []
 
 -- fewer than 2 (1); nothing is asked of the values
 abbrev pub statusFormat : Format
-statusFormat = record { fields = statusFields; asks = λ vs. []; valuesIn = λ vs. vs }
+statusFormat = record { fields = statusFields; asks = λ vs. []; askedAt = []; each = λ vs. refl; valuesIn = λ vs. vs }
 
 abbrev pub statusBy01 : List ℕ → Told
 statusBy01 s = readBy01 statusFormat s
+
+-- and where: at the body's end
+abbrev pub statusWhere : List ℕ → Told
+statusWhere s = readWhere statusFormat s
 
 -- the two values
 abbrev pub status : ℕ → ℕ → Told
@@ -80,13 +85,13 @@ toldDisconnect (DisconnectAnswer.Response s) = status (s .«channel_id») (s .st
 toldDisconnect (DisconnectAnswer.Refused e) = refused 2 e
 
 abbrev pub StatusPromise : List ℕ → StatusAnswer → Type 0
-StatusPromise s r = toldStatus r ≡ statusBy01 s
+StatusPromise s r = toldStatus r ≡ statusWhere s
 
 abbrev pub StateParsePromise : List ℕ → ConnectionStateAnswer → Type 0
-StateParsePromise s r = toldState r ≡ statusBy01 s
+StateParsePromise s r = toldState r ≡ statusWhere s
 
 abbrev pub DisconnectParsePromise : List ℕ → DisconnectAnswer → Type 0
-DisconnectParsePromise s r = toldDisconnect r ≡ statusBy01 s
+DisconnectParsePromise s r = toldDisconnect r ≡ statusWhere s
 
 -- status 0
 abbrev pub StateIsOkPromise : ConnectionStateResponse → Bool → Type 0
@@ -100,19 +105,25 @@ DisconnectIsOkPromise c r = r ≡ eqb (c .status) 0
 abbrev pub requestFields : List Field
 requestFields = byte ∷ byte ∷ Hpai.fields
 
--- fewer than 10 (1), then the checks of the Hpai; the reserved byte is not looked at
+-- fewer than 10 (1), then the checks of the Hpai, which starts at 2; the reserved byte is not looked at
 abbrev pub requestFormat : Format
-requestFormat = record { fields = requestFields; asks = λ vs. Hpai.checks (size Hpai.fields) (drop 2 vs); valuesIn = λ vs. getD vs 0 0 ∷ drop 2 vs }
+requestFormat = record {
+  fields = requestFields;
+  asks = λ vs. Hpai.checks (size Hpai.fields) (drop 2 vs);
+  askedAt = moved 2 (Hpai.offsets (size Hpai.fields));
+  each = λ vs. refl;
+  valuesIn = λ vs. getD vs 0 0 ∷ drop 2 vs;
+}
 
 abbrev pub toldRequest : DisconnectRequestAnswer → Told
-toldRequest r = record { number = r .number; values = r .request .«channel_id» ∷ Hpai.values (r .request .«control_endpoint»); start = 0; end = 0 }
+toldRequest r = record { number = r .number; values = r .request .«channel_id» ∷ Hpai.values (r .request .«control_endpoint»); start = 0; end = 0; offset = r .offset }
 
 abbrev pub DisconnectRequestParsePromise : List ℕ → DisconnectRequestAnswer → Type 0
-DisconnectRequestParsePromise s r = toldRequest r ≡ readBy01 requestFormat s
+DisconnectRequestParsePromise s r = toldRequest r ≡ readWhere requestFormat s
 
--- eight zeros beside the number
-abbrev pub NoRequestPromise : ℕ → DisconnectRequestAnswer → Type 0
-NoRequestPromise n r = toldRequest r ≡ record { number = n; values = replicate 8 0; start = 0; end = 0 }
+-- eight zeros beside the number, and the offset
+abbrev pub NoRequestPromise : ℕ → ℕ → DisconnectRequestAnswer → Type 0
+NoRequestPromise n o r = toldRequest r ≡ record { number = n; values = replicate 8 0; start = 0; end = 0; offset = o }
 
 -- ---- the response that it is owed: 8 bytes, a shorter buffer is 1. `06 10 02 0A 00 08 15 00` is channel 0x15, status 0
 

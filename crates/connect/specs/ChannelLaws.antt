@@ -1,5 +1,5 @@
 -- Connection state and disconnect: requests come back from their frames, responses have their layout, and no second answer. Assumes nothing.
-use Prim.Native.Nat.{ℕ, _≤_}
+use Prim.Native.Nat.{ℕ, _+_, _≤_}
 use native.Mathlib.Omega.{arith}
 use mathlib.Core.Path.{_≡_, refl, sym, ap, _∙_}
 use mathlib.Core.List.{List, [], _∷_, append-nil}
@@ -8,7 +8,7 @@ use borrow.Author.Tests.{le-ltb, eq-eqb}
 use Rattle.wire.specs.Told.{Told, done}
 use Rattle.wire.specs.ToldLaws.{one-to-one, answerOf, back-refused, same}
 use Rattle.wire.specs.Layout.{put, get}
-use Rattle.wire.specs.Format.{readBy01}
+use Rattle.wire.specs.Format.{readWhere}
 use Rattle.wire.specs.FormatLaws as FormatLaws
 use Rattle.wire.specs.LayoutLaws.{Bytes}
 use Rattle.wire.specs.WritingLaws.{writes-one}
@@ -25,7 +25,7 @@ use Rattle.hpai.specs.HpaiLaws as HpaiLaws
 use Rattle.hpai.specs.declared.Hpai.{Hpai}
 use Rattle.hpai.specs.declared.HpaiAnswer.{HpaiAnswer}
 use Rattle.connect.specs.EndpointLaws as EndpointLaws
-use Rattle.connect.specs.Channel.{requestLayout, requestChecks, RequestPromise, DisconnectBuildPromise, statusFields, statusFormat, statusBy01, status, toldState, StateParsePromise, toldDisconnect, DisconnectParsePromise, requestFields, requestFormat, toldRequest, DisconnectRequestParsePromise, statusLayout, responseChecks, DisconnectResponseBuildPromise}
+use Rattle.connect.specs.Channel.{requestLayout, requestChecks, RequestPromise, DisconnectBuildPromise, statusFields, statusFormat, statusWhere, status, toldState, StateParsePromise, toldDisconnect, DisconnectParsePromise, requestFields, requestFormat, toldRequest, DisconnectRequestParsePromise, statusLayout, responseChecks, DisconnectResponseBuildPromise}
 use Rattle.connect.specs.declared.channel.ConnectionStateAnswer.{ConnectionStateAnswer}
 use Rattle.connect.specs.declared.channel.ConnectionStateAnswer.the-variants as ConnectionStateAnswer
 use Rattle.connect.specs.declared.channel.DisconnectRequest.{DisconnectRequest}
@@ -42,7 +42,7 @@ request-one s channel h b = writes-one (requestChecks (length b)) (frame s (requ
 
 -- the endpoint stands at 2 of the body, which is 8 of the frame
 endpoint-back : (channel : ℕ) (h : Hpai) (r : HpaiAnswer) → HpaiLaws.Proper h → Hpai.ParsePromise (drop 2 (requestLayout channel h)) r → r ≡ HpaiLaws.accepted h
-endpoint-back channel h r p x = HpaiLaws.told-one r (HpaiLaws.accepted h) (x ∙ ap Hpai.parseBy01 (sym (append-nil (Hpai.layout h))) ∙ HpaiLaws.reads-back h [] p)
+endpoint-back channel h r p x = HpaiLaws.told-one r (HpaiLaws.accepted h) (x ∙ ap Hpai.parseWhere (sym (append-nil (Hpai.layout h))) ∙ HpaiLaws.reads-back h [] p)
 
 -- what is read of a request's body
 pub record Reads (channel : ℕ) (h : Hpai) (part : List ℕ) : Type 0 where
@@ -85,7 +85,7 @@ pub disconnect-parse-one : (s : List ℕ) (r q : DisconnectAnswer) → Disconnec
 disconnect-parse-one s r q a b = disconnect-told-one r q (same a b)
 
 -- what is accepted starts with the two values that are told
-pub has-layout : (s : List ℕ) (channel code : ℕ) → Bytes s → status channel code ≡ statusBy01 s → take 2 s ≡ put statusFields (channel ∷ code ∷ [])
+pub has-layout : (s : List ℕ) (channel code : ℕ) → Bytes s → status channel code ≡ statusWhere s → take 2 s ≡ put statusFields (channel ∷ code ∷ [])
 has-layout s channel code b q =
     let x = FormatLaws.accepted statusFormat s (status channel code) refl q in x .bytes b ∙ ap (λ (t : Told). put statusFields (t .values)) (sym (x .told-is))
 
@@ -93,20 +93,21 @@ has-layout s channel code b q =
 
 -- on from its endpoint
 module _ (s : List ℕ) (enough : 10 ≤ length s) (h : HpaiAnswer) (parsed : Hpai.ParsePromise (take 8 (drop 2 s)) h) where
-  pub fell : (h .number ≡ 0 → ⊥) → record { number = h .number; values = 0 ∷ 0 ∷ 0 ∷ 0 ∷ 0 ∷ 0 ∷ 0 ∷ 0 ∷ []; start = 0; end = 0 } ≡ readBy01 requestFormat s
+  -- its refusal is the request's, 2 later
+  pub fell : (h .number ≡ 0 → ⊥) → record { number = h .number; values = 0 ∷ 0 ∷ 0 ∷ 0 ∷ 0 ∷ 0 ∷ 0 ∷ 0 ∷ []; start = 0; end = 0; offset = 2 + h .offset } ≡ readWhere requestFormat s
   fell some = simp (le-ltb (length s) 10 enough) (EndpointLaws.refuses s enough h parsed (done (getD s 0 0 ∷ get Hpai.fields 2 s)) some)
 
-  pub stood : h .number ≡ 0 → done (getD s 0 0 ∷ Hpai.values (h .hpai)) ≡ readBy01 requestFormat s
+  pub stood : h .number ≡ 0 → done (getD s 0 0 ∷ Hpai.values (h .hpai)) ≡ readWhere requestFormat s
   stood zero =
       ap (λ (us : List ℕ). done (getD s 0 0 ∷ us)) (EndpointLaws.read s enough h parsed zero)
-      ∙ simp (le-ltb (length s) 10 enough) (EndpointLaws.lets s enough h parsed (done (getD s 0 0 ∷ get Hpai.fields 2 s)) zero)
+      ∙ simp (le-ltb (length s) 10 enough) (EndpointLaws.lets s enough h parsed (done (getD s 0 0 ∷ get Hpai.fields 2 s)) refl zero)
 
 abbrev requestOf : Told → DisconnectRequestAnswer
-requestOf t = record { number = t .number; request = record { «channel_id» = getD (t .values) 0 0; «control_endpoint» = HpaiLaws.hpaiOf (drop 1 (t .values)) } }
+requestOf t = record { number = t .number; request = record { «channel_id» = getD (t .values) 0 0; «control_endpoint» = HpaiLaws.hpaiOf (drop 1 (t .values)) }; offset = t .offset }
 
 request-back : (r : DisconnectRequestAnswer) → requestOf (toldRequest r) ≡ r
 request-back r =
-    ap (λ (h : Hpai). record { number = r .number; request = record { «channel_id» = r .request .«channel_id»; «control_endpoint» = h } }) (HpaiLaws.hpai-of-values (r .request .«control_endpoint»))
+    ap (λ (h : Hpai). record { number = r .number; request = record { «channel_id» = r .request .«channel_id»; «control_endpoint» = h }; offset = r .offset }) (HpaiLaws.hpai-of-values (r .request .«control_endpoint»))
 
 request-told-one : (r q : DisconnectRequestAnswer) → toldRequest r ≡ toldRequest q → r ≡ q
 request-told-one = one-to-one toldRequest requestOf request-back
@@ -115,7 +116,7 @@ pub request-parse-one : (s : List ℕ) (r q : DisconnectRequestAnswer) → Disco
 request-parse-one s r q a b = request-told-one r q (same a b)
 
 abbrev pub accepted : DisconnectRequest → DisconnectRequestAnswer
-accepted q = record { number = 0; request = q }
+accepted q = record { number = 0; request = q; offset = 0 }
 
 -- what is read of its body: the same request
 abbrev pub ReadsRequest : DisconnectRequest → List ℕ → Type 0
@@ -127,7 +128,7 @@ request-reads q p r x =
     let vs : List ℕ = q .«channel_id» ∷ 0 ∷ Hpai.values h in
     let nine : length vs ≡ 9 = omega (arith, HpaiLaws.length-values h (p .address-4)) in
     request-told-one r (accepted q)
-    (x ∙ ap (readBy01 requestFormat) (sym (append-nil (requestLayout (q .«channel_id») h)))
+    (x ∙ ap (readWhere requestFormat) (sym (append-nil (requestLayout (q .«channel_id») h)))
     ∙ FormatLaws.reads-back requestFormat vs [] nine (simp (eq-eqb (h .«structure_length») 8 (p .length-8))))
 
 -- built, parsed as a frame, its body parsed

@@ -1,12 +1,12 @@
 -- 01, "`ConnectionRequestInfo`": 4, type, layer, 0; fewer than 4 (1), length byte not 4 (2). Assumes nothing.
 use Prim.Native.Nat.{ℕ}
-use mathlib.Core.Path.{_≡_}
+use mathlib.Core.Path.{_≡_, refl}
 use mathlib.Core.List.{List, [], _∷_}
 use lib.ListN.{length, getD}
 use Rattle.wire.specs.Told.{Told, done, refused, Check, _⇒_, differs}
 use Rattle.wire.specs.Writing.{Writes, room}
 use Rattle.wire.specs.Layout.{Field, byte, size, put}
-use Rattle.wire.specs.Format.{Format, checksOf, readBy01}
+use Rattle.wire.specs.Format.{Format, checksOf, readBy01, readWhere}
 use Rattle.wire.specs.declared.refusals.Refusal.the-variants.{InvalidFrame}
 use Rattle.wire.specs.declared.refusals.Written.{Written}
 use Rattle.connect.specs.declared.cri.ConnectionRequestInfo.{ConnectionRequestInfo}
@@ -38,7 +38,13 @@ valuesIn vs = typeIn vs ∷ layerIn vs ∷ []
 
 -- length byte not 4 (2)
 abbrev pub format : Format
-format = record { fields = fields; asks = λ vs. differs (lengthIn vs) (size fields) ⇒ InvalidFrame ∷ []; valuesIn = valuesIn }
+format = record {
+  fields = fields;
+  asks = λ vs. differs (lengthIn vs) (size fields) ⇒ InvalidFrame ∷ [];
+  askedAt = 0 ∷ [];
+  each = λ vs. refl;
+  valuesIn = valuesIn;
+}
 
 -- of an input of n bytes with these values: fewer than 4 (1), then that
 abbrev pub checks : ℕ → List ℕ → List Check
@@ -51,8 +57,12 @@ told (Refused e) = refused 2 e
 abbrev pub decodeBy01 : List ℕ → Told
 decodeBy01 s = readBy01 format s
 
+-- and where: at the input's end, or at the length byte
+abbrev pub decodeWhere : List ℕ → Told
+decodeWhere s = readWhere format s
+
 abbrev pub DecodePromise : List ℕ → ConnectionRequestInfoAnswer → Type 0
-DecodePromise s r = told r ≡ decodeBy01 s
+DecodePromise s r = told r ≡ decodeWhere s
 
 -- a tunnel (4) on the link layer (2)
 abbrev pub tunnel : ConnectionRequestInfo

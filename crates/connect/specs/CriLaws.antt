@@ -13,7 +13,7 @@ use Rattle.wire.specs.WritingLaws.{writes-one, wrote}
 use Rattle.wire.specs.declared.refusals.Refusal.the-variants.{InvalidFrame}
 use Rattle.wire.specs.declared.refusals.Written.{Written}
 use Rattle.wire.specs.declared.refusals.Written.the-variants as Written
-use Rattle.connect.specs.Cri.{fields, format, values, layout, told, decodeBy01, DecodePromise, encodeChecks, EncodePromise}
+use Rattle.connect.specs.Cri.{fields, format, values, layout, told, decodeWhere, DecodePromise, encodeChecks, EncodePromise}
 use Rattle.connect.specs.declared.cri.ConnectionRequestInfo.{ConnectionRequestInfo}
 use Rattle.connect.specs.declared.cri.ConnectionRequestInfoAnswer.{ConnectionRequestInfoAnswer}
 use Rattle.connect.specs.declared.cri.ConnectionRequestInfoAnswer.the-variants.{Info, Refused}
@@ -35,13 +35,13 @@ pub encode-one : (c : ConnectionRequestInfo) (b : List ℕ) (r q : Written) (aft
     → EncodePromise c b r after → EncodePromise c b q later → (r ≡ q) × (after ≡ later)
 encode-one c b = writes-one (encodeChecks (length b)) (layout c) b
 
-pub reads-back : (c : ConnectionRequestInfo) (rest : List ℕ) → decodeBy01 (layout c ++ rest) ≡ told (Info c)
+pub reads-back : (c : ConnectionRequestInfo) (rest : List ℕ) → decodeWhere (layout c ++ rest) ≡ told (Info c)
 reads-back c rest = FormatLaws.reads-back format (values c) rest refl refl
 
 pub encode-decode : (c : ConnectionRequestInfo) (b : List ℕ) (n : ℕ) (after : List ℕ) (r : ConnectionRequestInfoAnswer)
     → EncodePromise c b (Written.Bytes n) after → DecodePromise after r → r ≡ Info c
 encode-decode c b n after r e q =
-    told-one r (Info c) (q ∙ ap decodeBy01 (wrote (encodeChecks (length b)) (layout c) b n after e .bytes) ∙ reads-back c (drop 4 b))
+    told-one r (Info c) (q ∙ ap decodeWhere (wrote (encodeChecks (length b)) (layout c) b n after e .bytes) ∙ reads-back c (drop 4 b))
 
 -- what is accepted has the layout of its answer, but for the reserved byte
 pub has-layout : (s : List ℕ) (c : ConnectionRequestInfo) → Bytes s → DecodePromise s (Info c)

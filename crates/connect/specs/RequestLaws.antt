@@ -39,7 +39,7 @@ control-back q r p x =
     let c : List ℕ = Hpai.layout (q .«control_endpoint») in
     let d : List ℕ = Hpai.layout (q .«data_endpoint») in
     let i : List ℕ = Cri.layout (q .cri) in
-    HpaiLaws.told-one r (HpaiLaws.accepted (q .«control_endpoint»)) (x ∙ ap Hpai.parseBy01 (append-assoc c d i) ∙ HpaiLaws.reads-back (q .«control_endpoint») (d ++ i) (p .control))
+    HpaiLaws.told-one r (HpaiLaws.accepted (q .«control_endpoint»)) (x ∙ ap Hpai.parseWhere (append-assoc c d i) ∙ HpaiLaws.reads-back (q .«control_endpoint») (d ++ i) (p .control))
 
 data-back : (q : ConnectRequest) (r : HpaiAnswer) → Proper q → Hpai.ParsePromise (drop 8 (layout q)) r → r ≡ HpaiLaws.accepted (q .«data_endpoint»)
 data-back q r p x =
@@ -47,7 +47,7 @@ data-back q r p x =
     let d : List ℕ = Hpai.layout (q .«data_endpoint») in
     let i : List ℕ = Cri.layout (q .cri) in
     let behind : drop 8 (layout q) ≡ d ++ i = ap (drop 8) (append-assoc c d i) ∙ drop-at c (d ++ i) 8 (HpaiLaws.length-layout (q .«control_endpoint») (p .control .address-4)) in
-    HpaiLaws.told-one r (HpaiLaws.accepted (q .«data_endpoint»)) (x ∙ ap Hpai.parseBy01 behind ∙ HpaiLaws.reads-back (q .«data_endpoint») i (p .other))
+    HpaiLaws.told-one r (HpaiLaws.accepted (q .«data_endpoint»)) (x ∙ ap Hpai.parseWhere behind ∙ HpaiLaws.reads-back (q .«data_endpoint») i (p .other))
 
 cri-back : (q : ConnectRequest) (r : ConnectionRequestInfoAnswer) → Proper q → Cri.DecodePromise (drop 16 (layout q)) r → r ≡ Info (q .cri)
 cri-back q r p x =
@@ -56,7 +56,7 @@ cri-back q r p x =
     let i : List ℕ = Cri.layout (q .cri) in
     let sixteen : length (c ++ d) ≡ 16 =
     length-append c d ∙ omega (arith, HpaiLaws.length-layout (q .«control_endpoint») (p .control .address-4), HpaiLaws.length-layout (q .«data_endpoint») (p .other .address-4)) in
-    CriLaws.told-one r (Info (q .cri)) (x ∙ ap Cri.decodeBy01 (drop-at (c ++ d) i 16 sixteen) ∙ CriLaws.reads-back (q .cri) [])
+    CriLaws.told-one r (Info (q .cri)) (x ∙ ap Cri.decodeWhere (drop-at (c ++ d) i 16 sixteen) ∙ CriLaws.reads-back (q .cri) [])
 
 length-layout : (q : ConnectRequest) → Proper q → length (layout q) ≡ 20
 length-layout q p =

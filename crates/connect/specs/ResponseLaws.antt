@@ -1,5 +1,5 @@
 -- A connect response: how it goes on from its endpoint, both ways, and no second answer; then in KNX's form. Assumes nothing.
-use Prim.Native.Nat.{ℕ, _<_, _≤_}
+use Prim.Native.Nat.{ℕ, _+_, _<_, _≤_}
 use native.Mathlib.Omega.{arith}
 use mathlib.Core.Path.{_≡_, refl, sym, ap, _∙_}
 use mathlib.Core.Bool.{Bool, true, false, cond}
@@ -14,6 +14,7 @@ use Rattle.wire.specs.ToldLaws.{same}
 use Rattle.wire.specs.Layout.{byte, runAt, put, get}
 use Rattle.wire.specs.FormatLaws as FormatLaws
 use Rattle.wire.specs.LayoutLaws.{Bytes}
+use Rattle.wire.specs.declared.refusals.Fault.{Fault}
 use Rattle.wire.specs.declared.refusals.Refusal.the-variants.{BufferTooSmall}
 use Rattle.wire.specs.declared.refusals.Verdict.{Verdict}
 use Rattle.wire.specs.declared.refusals.Verdict.the-variants.{Accept, Refuse}
@@ -21,23 +22,23 @@ use Rattle.hpai.specs.Hpai as Hpai
 use Rattle.hpai.specs.declared.Hpai.{Hpai}
 use Rattle.hpai.specs.declared.HpaiAnswer.{HpaiAnswer}
 use Rattle.connect.specs.EndpointLaws as EndpointLaws
-use Rattle.connect.specs.Response.{fields, format, values, layout, checks, told, parseBy01, Arrays, ParsePromise, bare, parseByKnx, ParseStandardPromise}
+use Rattle.connect.specs.Response.{fields, format, values, layout, checks, told, parseWhere, Arrays, ParsePromise, bare, parseStandardWhere, ParseStandardPromise}
 use Rattle.connect.specs.declared.response.ConnectResponse.{ConnectResponse}
 use Rattle.connect.specs.declared.response.ConnectResponseAnswer.{ConnectResponseAnswer}
 
 -- ---- on from the endpoint, which stands from 2 to 10
 
 module _ (s : List ℕ) (enough : 14 ≤ length s) (h : HpaiAnswer) (parsed : Hpai.ParsePromise (take 8 (drop 2 s)) h) where
-  -- the endpoint's refusal is the response's
-  pub fell : (h .number ≡ 0 → ⊥) → record { number = h .number; values = 0 ∷ 0 ∷ 0 ∷ 0 ∷ 0 ∷ 0 ∷ 0 ∷ 0 ∷ 0 ∷ 0 ∷ 0 ∷ 0 ∷ 0 ∷ []; start = 0; end = 0 } ≡ parseBy01 s
+  -- the endpoint's refusal is the response's, 2 later
+  pub fell : (h .number ≡ 0 → ⊥) → record { number = h .number; values = 0 ∷ 0 ∷ 0 ∷ 0 ∷ 0 ∷ 0 ∷ 0 ∷ 0 ∷ 0 ∷ 0 ∷ 0 ∷ 0 ∷ 0 ∷ []; start = 0; end = 0; offset = 2 + h .offset } ≡ parseWhere s
   fell some = simp (le-ltb (length s) 14 enough) (EndpointLaws.refuses s (omega arith) h parsed (done (get fields 0 s)) some)
 
   -- and where it is accepted, the response is
   pub stood : h .number ≡ 0
-      → done (getD s 0 0 ∷ getD s 1 0 ∷ (Hpai.values (h .hpai) ++ runAt 4 s 10)) ≡ parseBy01 s
+      → done (getD s 0 0 ∷ getD s 1 0 ∷ (Hpai.values (h .hpai) ++ runAt 4 s 10)) ≡ parseWhere s
   stood zero =
       ap (λ (us : List ℕ). done (getD s 0 0 ∷ getD s 1 0 ∷ (us ++ runAt 4 s 10))) (EndpointLaws.read s (omega arith) h parsed zero)
-      ∙ simp (le-ltb (length s) 14 enough) (EndpointLaws.lets s (omega arith) h parsed (done (get fields 0 s)) zero)
+      ∙ simp (le-ltb (length s) 14 enough) (EndpointLaws.lets s (omega arith) h parsed (done (get fields 0 s)) refl zero)
 
 -- ---- no second answer
 
@@ -68,9 +69,9 @@ response-of-values c a =
 
 told-one : (r q : ConnectResponseAnswer) → Arrays (r .response) → Arrays (q .response) → told r ≡ told q → r ≡ q
 told-one r q a b e =
-    let back : Told → ConnectResponseAnswer = λ t. record { number = t .number; response = responseOf (t .values) } in
-    let of-r : back (told r) ≡ r = ap (λ (c : ConnectResponse). record { number = r .number; response = c }) (response-of-values (r .response) a) in
-    let of-q : back (told q) ≡ q = ap (λ (c : ConnectResponse). record { number = q .number; response = c }) (response-of-values (q .response) b) in
+    let back : Told → ConnectResponseAnswer = λ t. record { number = t .number; response = responseOf (t .values); offset = t .offset } in
+    let of-r : back (told r) ≡ r = ap (λ (c : ConnectResponse). record { number = r .number; response = c; offset = r .offset }) (response-of-values (r .response) a) in
+    let of-q : back (told q) ≡ q = ap (λ (c : ConnectResponse). record { number = q .number; response = c; offset = q .offset }) (response-of-values (q .response) b) in
     sym of-r ∙ ap back e ∙ of-q
 
 pub parse-one : (s : List ℕ) (r q : ConnectResponseAnswer) → ParsePromise s r → ParsePromise s q → r ≡ q
@@ -82,7 +83,7 @@ parse-standard-one s r q a b = told-one r q (a .1) (b .1) (same (a .0) (b .0))
 -- ---- both ways
 
 abbrev pub accepted : ConnectResponse → ConnectResponseAnswer
-accepted c = record { number = 0; response = c }
+accepted c = record { number = 0; response = c; offset = 0 }
 
 length-values : (c : ConnectResponse) → Arrays c → length (values c) ≡ 13
 length-values c a =
@@ -90,7 +91,7 @@ length-values c a =
     omega (arith, length-append (ip ++ c .«data_endpoint» .port ∷ []) (c .crd), length-append ip (c .«data_endpoint» .port ∷ []), a .address-4, a .crd-4)
 
 -- a response whose endpoint has the proper length byte is read back
-pub reads-back : (c : ConnectResponse) (rest : List ℕ) → Arrays c → c .«data_endpoint» .«structure_length» ≡ 8 → parseBy01 (layout c ++ rest) ≡ told (accepted c)
+pub reads-back : (c : ConnectResponse) (rest : List ℕ) → Arrays c → c .«data_endpoint» .«structure_length» ≡ 8 → parseWhere (layout c ++ rest) ≡ told (accepted c)
 reads-back c rest a e = FormatLaws.reads-back format (values c) rest (length-values c a) (simp (eq-eqb _ _ e))
 
 -- what is accepted has the layout of its answer
@@ -104,15 +105,19 @@ thirteen : (s : List ℕ) (b : Bool) → length (cond b (get fields 0 s) (bare (
 thirteen s true = refl
 thirteen s false = refl
 
-pub too-short : (s : List ℕ) → length s < 2 → refused 13 BufferTooSmall ≡ parseByKnx s
+-- fewer than two bytes are told at the body's end
+abbrev tooShort : List ℕ → Fault
+tooShort s = record { why = BufferTooSmall; at = length s }
+
+pub too-short : (s : List ℕ) → length s < 2 → refused 13 (tooShort s) ≡ parseStandardWhere s
 too-short s short =
-    sym (simp (lt-ltb (length s) 2 short) (ap (λ (k : ℕ). refused k BufferTooSmall) (thirteen s (eqb (getD s 1 0) 0))))
+    sym (simp (lt-ltb (length s) 2 short) (ap (λ (k : ℕ). refused k (tooShort s)) (thirteen s (eqb (getD s 1 0) 0))))
 
 -- with status 0 it is 01's
-pub as-01 : (s : List ℕ) → getD s 1 0 ≡ 0 → parseByKnx s ≡ parseBy01 s
+pub as-01 : (s : List ℕ) → getD s 1 0 ≡ 0 → parseStandardWhere s ≡ parseWhere s
 as-01 s zero = go (ltb (length s) 2) refl
   where
-    go : (b : Bool) → ltb (length s) 2 ≡ b → parseByKnx s ≡ parseBy01 s
+    go : (b : Bool) → ltb (length s) 2 ≡ b → parseStandardWhere s ≡ parseWhere s
     go true e = let few = ltb-true (length s) 2 e in sym (too-short s few) ∙ sym (simp (lt-ltb (length s) 14 (omega arith)))
     go false e = simp (e, eq-eqb (getD s 1 0) 0 zero)
 
@@ -123,14 +128,14 @@ two (x ∷ []) some = absurd (some refl)
 two (x ∷ y ∷ s) some = omega arith
 
 -- with another it has channel and status alone
-pub refusing : (s : List ℕ) → (getD s 1 0 ≡ 0 → ⊥) → parseByKnx s ≡ done (bare (getD s 0 0) (getD s 1 0))
+pub refusing : (s : List ℕ) → (getD s 1 0 ≡ 0 → ⊥) → parseStandardWhere s ≡ done (bare (getD s 0 0) (getD s 1 0))
 refusing s some = simp (le-ltb (length s) 2 (two s some), ne-eqb (getD s 1 0) 0 some)
 
 -- a response that refuses, and one that does not, are read back
-pub bare-back : (channel status : ℕ) (rest : List ℕ) → (status ≡ 0 → ⊥) → parseByKnx (put (byte ∷ byte ∷ []) (channel ∷ status ∷ []) ++ rest) ≡ done (bare channel status)
+pub bare-back : (channel status : ℕ) (rest : List ℕ) → (status ≡ 0 → ⊥) → parseStandardWhere (put (byte ∷ byte ∷ []) (channel ∷ status ∷ []) ++ rest) ≡ done (bare channel status)
 bare-back channel status rest some = refusing (channel ∷ status ∷ rest) some
 
-pub knx-back : (c : ConnectResponse) (rest : List ℕ) → Arrays c → c .«data_endpoint» .«structure_length» ≡ 8 → c .status ≡ 0 → parseByKnx (layout c ++ rest) ≡ told (accepted c)
+pub knx-back : (c : ConnectResponse) (rest : List ℕ) → Arrays c → c .«data_endpoint» .«structure_length» ≡ 8 → c .status ≡ 0 → parseStandardWhere (layout c ++ rest) ≡ told (accepted c)
 knx-back c rest a e zero = as-01 (layout c ++ rest) zero ∙ reads-back c rest a e
 
 -- the status that is told is the body's

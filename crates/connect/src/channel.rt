@@ -2,6 +2,7 @@
 ghost use Rattle.connect.specs.Channel.{StateNewPromise, StateBuildPromise, StateParsePromise, StateIsOkPromise, DisconnectNewPromise, DisconnectBuildPromise, DisconnectParsePromise, DisconnectIsOkPromise, RequestPromise, StatusPromise, DisconnectRequestParsePromise, NoRequestPromise, DisconnectResponseNewPromise, DisconnectResponseBuildPromise};
 use constants::ServiceType;
 use hpai::Hpai;
+use wire::Fault;
 use wire::Refusal;
 use wire::Written;
 
@@ -17,7 +18,7 @@ pub struct ConnectionStateResponse {
 
 pub enum ConnectionStateAnswer {
     Response(ConnectionStateResponse),
-    Refused(Refusal),
+    Refused(Fault),
 }
 
 pub struct DisconnectRequest {
@@ -29,6 +30,7 @@ pub struct DisconnectRequest {
 pub struct DisconnectRequestAnswer {
     pub number: u8,
     pub request: DisconnectRequest,
+    pub offset: usize,
 }
 
 pub struct DisconnectResponse {
@@ -38,7 +40,7 @@ pub struct DisconnectResponse {
 
 pub enum DisconnectAnswer {
     Response(DisconnectResponse),
-    Refused(Refusal),
+    Refused(Fault),
 }
 
 // What both responses hold.
@@ -49,7 +51,7 @@ pub(crate) struct Status {
 
 pub(crate) enum StatusAnswer {
     Status(Status),
-    Refused(Refusal),
+    Refused(Fault),
 }
 
 impl ConnectionStateRequest {
@@ -84,7 +86,7 @@ impl ConnectionStateResponse {
                 channel_id: s.channel_id,
                 status: s.status,
             }),
-            StatusAnswer::Refused(why) => ConnectionStateAnswer::Refused(why),
+            StatusAnswer::Refused(fault) => ConnectionStateAnswer::Refused(fault),
         }
     }
 
@@ -122,18 +124,22 @@ impl DisconnectRequest {
         ensures { λ r. ⌜ DisconnectRequestParsePromise (now («data» .entry)) r ⌝ }
     {
         if data.len() < 10 {
-            return no_request(Refusal::BufferTooSmall.number());
+            return no_request(Refusal::BufferTooSmall.number(), data.len());
         }
         let answer = Hpai::parse(&data[2..10]);
         if answer.number != 0 {
-            return no_request(answer.number);
+            return no_request(answer.number, 2 + answer.offset);
         }
         let control_endpoint = answer.hpai;
         let request = DisconnectRequest {
             channel_id: data[0],
             control_endpoint,
         };
-        DisconnectRequestAnswer { number: 0, request }
+        DisconnectRequestAnswer {
+            number: 0,
+            request,
+            offset: 0,
+        }
     }
 }
 
@@ -160,7 +166,7 @@ impl DisconnectResponse {
                 channel_id: s.channel_id,
                 status: s.status,
             }),
-            StatusAnswer::Refused(why) => DisconnectAnswer::Refused(why),
+            StatusAnswer::Refused(fault) => DisconnectAnswer::Refused(fault),
         }
     }
 
@@ -190,7 +196,10 @@ fn read_status(data: &[u8]) -> StatusAnswer
     ensures { λ r. ⌜ StatusPromise (now («data» .entry)) r ⌝ }
 {
     if data.len() < 2 {
-        return StatusAnswer::Refused(Refusal::BufferTooSmall);
+        return StatusAnswer::Refused(Fault {
+            why: Refusal::BufferTooSmall,
+            at: data.len(),
+        });
     }
     StatusAnswer::Status(Status {
         channel_id: data[0],
@@ -198,8 +207,8 @@ fn read_status(data: &[u8]) -> StatusAnswer
     })
 }
 
-fn no_request(number: u8) -> DisconnectRequestAnswer
-    ensures { λ r. ⌜ NoRequestPromise number r ⌝ }
+fn no_request(number: u8, offset: usize) -> DisconnectRequestAnswer
+    ensures { λ r. ⌜ NoRequestPromise number offset r ⌝ }
 {
     let control_endpoint = Hpai {
         structure_length: 0,
@@ -211,5 +220,9 @@ fn no_request(number: u8) -> DisconnectRequestAnswer
         channel_id: 0,
         control_endpoint,
     };
-    DisconnectRequestAnswer { number, request }
+    DisconnectRequestAnswer {
+        number,
+        request,
+        offset,
+    }
 }

@@ -14,6 +14,7 @@ pub struct ConnectResponse {
 pub struct ConnectResponseAnswer {
     pub number: u8,
     pub response: ConnectResponse,
+    pub offset: usize,
 }
 
 impl ConnectResponse {
@@ -22,11 +23,11 @@ impl ConnectResponse {
         ensures { λ r. ⌜ ParsePromise (now («data» .entry)) r ⌝ }
     {
         if data.len() < 14 {
-            return refused(Refusal::BufferTooSmall.number());
+            return refused(Refusal::BufferTooSmall.number(), data.len());
         }
         let answer = Hpai::parse(&data[2..10]);
         if answer.number != 0 {
-            return refused(answer.number);
+            return refused(answer.number, 2 + answer.offset);
         }
         let data_endpoint = answer.hpai;
         let crd = [data[10], data[11], data[12], data[13]];
@@ -39,6 +40,7 @@ impl ConnectResponse {
         ConnectResponseAnswer {
             number: 0,
             response,
+            offset: 0,
         }
     }
 
@@ -47,7 +49,7 @@ impl ConnectResponse {
         ensures { λ r. ⌜ ParseStandardPromise (now («data» .entry)) r ⌝ }
     {
         if data.len() < 2 {
-            return refused(Refusal::BufferTooSmall.number());
+            return refused(Refusal::BufferTooSmall.number(), data.len());
         }
         if data[1] == 0 {
             return ConnectResponse::parse(data);
@@ -56,6 +58,7 @@ impl ConnectResponse {
         ConnectResponseAnswer {
             number: 0,
             response,
+            offset: 0,
         }
     }
 
@@ -74,11 +77,15 @@ impl ConnectResponse {
     }
 }
 
-fn refused(number: u8) -> ConnectResponseAnswer
-    ensures { λ r. ⌜ RefusedPromise number r ⌝ }
+fn refused(number: u8, offset: usize) -> ConnectResponseAnswer
+    ensures { λ r. ⌜ RefusedPromise number offset r ⌝ }
 {
     let response = bare(0, 0);
-    ConnectResponseAnswer { number, response }
+    ConnectResponseAnswer {
+        number,
+        response,
+        offset,
+    }
 }
 
 // Channel and status alone, and zeros.

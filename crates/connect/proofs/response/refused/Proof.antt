@@ -11,8 +11,8 @@ bare-requires c κs = search needs
 
 returns : tie.Need-returns
 returns c =
-    let n = c .before .args .number in
-    (ap (λ (vs : List ℕ). record { number = n; values = vs; start = 0; end = 0 }) (c .bare .ensures .0), c .bare .ensures .1)
+    let a = c .before .args in
+    (ap (λ (vs : List ℕ). record { number = a .number; values = vs; start = 0; end = 0; offset = a .offset }) (c .bare .ensures .0), c .bare .ensures .1)
 
 pub refused-spec : {M : Type 1} → statement M
 refused-spec = tie.close (tie.spec bare-requires returns)

@@ -1,6 +1,8 @@
 -- One law of `ChannelLaws` for each way out after the endpoint. Assumes nothing.
+use native.Mathlib.Omega.{arith}
 use mathlib.Core.Path.{_∙_}
 use borrow.Author.Tests.{lt-ltb}
+use Rattle.connect.specs.EndpointLaws.{within}
 use Rattle.connect.specs.ChannelLaws.{fell, stood}
 use borrow.Author.Needs.{needs}
 use Rattle.connect.proofs.channel.DisconnectRequest.parse.Statement.{statement}
@@ -27,17 +29,23 @@ part-parse-end c = search needs
 parse-requires : tie.Need-parse-requires
 parse-requires c κs = search needs
 
+add-no-request : tie.Need-add-no-request
+add-no-request c =
+    let s = c .before .before .before .before .before .before .before .args .«data» .now in
+    let answer = c .before .before .before .parse in
+    omega (arith, within s (c .before .before .before .before .before .if1 .left) (answer .result) (answer .ensures))
+
 no-request-requires-2 : tie.Need-no-request-requires-2
 no-request-requires-2 c κs = search needs
 
 returns-2 : tie.Need-returns-2
 returns-2 c =
-    let s = c .before .before .before .before .before .before .before .args .«data» .now in
-    let answer = c .before .before .before .parse in
-    c .no-request2 .ensures ∙ fell s (c .before .before .before .before .before .if1 .left) (answer .result) (answer .ensures) (c .before .if2 .taken)
+    let s = c .before .before .before .before .before .before .before .before .args .«data» .now in
+    let answer = c .before .before .before .before .parse in
+    c .no-request2 .ensures ∙ fell s (c .before .before .before .before .before .before .if1 .left) (answer .result) (answer .ensures) (c .before .before .if2 .taken)
 
-shared-slice-read-t13 : tie.Need-shared-slice-read-t13
-shared-slice-read-t13 c = search needs
+shared-slice-read-t15 : tie.Need-shared-slice-read-t15
+shared-slice-read-t15 c = search needs
 
 returns-3 : tie.Need-returns-3
 returns-3 c =
@@ -56,7 +64,8 @@ parse-spec =
     part-parse-start
     part-parse-end
     parse-requires
+    add-no-request
     no-request-requires-2
     returns-2
-    shared-slice-read-t13
+    shared-slice-read-t15
     returns-3)

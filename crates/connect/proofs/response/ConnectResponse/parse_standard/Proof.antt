@@ -1,7 +1,7 @@
 -- One law of `ResponseLaws` for each way out: too short, 01's, a refusal. Assumes nothing.
 use Prim.Native.Nat.{ℕ}
 use mathlib.Core.Path.{sym, ap, _∙_}
-use lib.ListN.{replicate}
+use lib.ListN.{length, replicate}
 use Rattle.wire.specs.Told.{done}
 use Rattle.connect.specs.ResponseLaws.{too-short, as-01, refusing}
 use borrow.Author.Needs.{needs}
@@ -17,7 +17,7 @@ refused-requires c κs = search needs
 returns : tie.Need-returns
 returns c =
     let s = c .before .before .before .before .args .«data» .now in
-    (c .refused .ensures .0 ∙ ap (λ (n : ℕ). record { number = n; values = replicate 13 0; start = 0; end = 0 }) (c .before .number .ensures) ∙ too-short s (c .before .before .if1 .taken), c .refused .ensures .1)
+    (c .refused .ensures .0 ∙ ap (λ (n : ℕ). record { number = n; values = replicate 13 0; start = 0; end = 0; offset = length s }) (c .before .number .ensures) ∙ too-short s (c .before .before .if1 .taken), c .refused .ensures .1)
 
 shared-slice-read-if2 : tie.Need-shared-slice-read-if2
 shared-slice-read-if2 c = search needs
