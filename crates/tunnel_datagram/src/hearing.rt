@@ -1,6 +1,9 @@
 // A datagram is a request or an acknowledgement of a channel, or it is refused.
 ghost use mathlib.Core.Path.{_≡_};
+ghost use Prim.Native.Nat.{_+_, _<_};
 ghost use Rattle.wire.specs.Parts.{partOf};
+ghost use Rattle.wire.specs.Places.{laterFault};
+ghost use Rattle.constants.specs.Constants.{headerSize};
 ghost use Rattle.tunnel_datagram.specs.Hearing.{inFrame, requestIn, ackIn, HearPromise, HearInPromise};
 ghost use Rattle.constants.specs.Services.{codeOf};
 use constants::ServiceType;
@@ -12,16 +15,20 @@ use tunnelling::TunnelingAck;
 use tunnelling::TunnelingAckAnswer;
 use tunnelling::TunnelingRequest;
 use tunnelling::TunnelingRequestAnswer;
+use wire::Fault;
 use wire::Refusal;
 
 // Where the cEMI frame of a request starts: behind the header and the connection header.
 pub const CEMI_START: usize = 10;
 
+// Where a tunnelled frame and an acknowledgement name their channel.
+pub const CHANNEL_OFFSET: usize = 7;
+
 // A request's cEMI frame runs from there to the end of its frame.
 pub enum Heard {
     Request { channel: u8, number: u8, end: usize },
     Ack { channel: u8, number: u8, status: u8 },
-    Refused(Refusal),
+    Refused(Fault),
 }
 
 pub fn hear(bytes: &[u8]) -> Heard
@@ -36,7 +43,7 @@ pub fn hear_in(form: Form, bytes: &[u8]) -> Heard
 {
     match FrameFields::parse(bytes) {
         FrameAnswer::Frame(frame) => in_frame(form, frame, bytes),
-        FrameAnswer::Refused(why) => Heard::Refused(why),
+        FrameAnswer::Refused(fault) => Heard::Refused(fault),
     }
 }
 
@@ -48,15 +55,19 @@ fn in_frame(form: Form, frame: FrameFields, bytes: &[u8]) -> Heard
     let service_type = header.service_type;
     let end = header.total_length as usize;
     let body = wire::part(bytes, KnxnetIpHeader::SIZE, end);
+    let unfit = Fault {
+        why: Refusal::NotForTunnels,
+        at: 2,
+    };
     match service_type {
         ServiceType::TunnellingRequest => in_request(body, end),
         ServiceType::TunnellingAck => in_ack(form, body),
-        ServiceType::ConnectRequest => Heard::Refused(Refusal::NotForTunnels),
-        ServiceType::ConnectResponse => Heard::Refused(Refusal::NotForTunnels),
-        ServiceType::ConnectionstateRequest => Heard::Refused(Refusal::NotForTunnels),
-        ServiceType::ConnectionstateResponse => Heard::Refused(Refusal::NotForTunnels),
-        ServiceType::DisconnectRequest => Heard::Refused(Refusal::NotForTunnels),
-        ServiceType::DisconnectResponse => Heard::Refused(Refusal::NotForTunnels),
+        ServiceType::ConnectRequest => Heard::Refused(unfit),
+        ServiceType::ConnectResponse => Heard::Refused(unfit),
+        ServiceType::ConnectionstateRequest => Heard::Refused(unfit),
+        ServiceType::ConnectionstateResponse => Heard::Refused(unfit),
+        ServiceType::DisconnectRequest => Heard::Refused(unfit),
+        ServiceType::DisconnectResponse => Heard::Refused(unfit),
     }
 }
 
@@ -69,7 +80,7 @@ fn in_request(body: &[u8], end: usize) -> Heard
             number: request.connection_header.sequence_counter,
             end,
         },
-        TunnelingRequestAnswer::Refused(why) => Heard::Refused(why),
+        TunnelingRequestAnswer::Refused(fault) => Heard::Refused(in_body(fault)),
     }
 }
 
@@ -82,6 +93,18 @@ fn in_ack(form: Form, body: &[u8]) -> Heard
             number: ack.connection_header.sequence_counter,
             status: ack.status,
         },
-        TunnelingAckAnswer::Refused(why) => Heard::Refused(why),
+        TunnelingAckAnswer::Refused(fault) => Heard::Refused(in_body(fault)),
+    }
+}
+
+// A refusal of the body, as the datagram's: the body stands behind the header.
+fn in_body(fault: Fault) -> Fault
+    requires { ⌜ headerSize + fault .at < 18446744073709551616 ⌝ }
+    ensures { λ r. ⌜ r ≡ laterFault headerSize fault ⌝ }
+{
+    let why = fault.why;
+    Fault {
+        why,
+        at: KnxnetIpHeader::SIZE + fault.at,
     }
 }

@@ -17,8 +17,8 @@ enum-known-frame c = search needs
 in-frame-requires : tie.Need-in-frame-requires
 in-frame-requires c κs = search needs
 
-enum-known-why : tie.Need-enum-known-why
-enum-known-why c = search needs
+enum-known-fault : tie.Need-enum-known-fault
+enum-known-fault c = search needs
 
 returns : tie.Need-returns
 returns c =
@@ -31,10 +31,10 @@ returns-2 : tie.Need-returns-2
 returns-2 c =
     let a = c .before .before .before .before .before .args in
     let s = a .bytes .now in
-    let why = c .before .why .given in
-    ap told (not-framed (a .form) s (why .0 .0) (carried ParsePromise {a = s} refl (why .1) (c .before .before .before .parse .ensures)))
+    let fault = c .before .fault .given in
+    ap told (not-framed (a .form) s (fault .0 .0) (carried ParsePromise {a = s} refl (fault .1) (c .before .before .before .parse .ensures)))
 
 pub hear-in-spec : {M : Type 1} → statement M
 hear-in-spec =
     tie.close
-    (tie.spec parse-requires enum-known-frame in-frame-requires enum-known-why returns returns-2)
+    (tie.spec parse-requires enum-known-frame in-frame-requires enum-known-fault returns returns-2)
