@@ -9,6 +9,7 @@ use Rattle.wire.specs.Refusing.{Zeros}
 use Rattle.wire.specs.declared.refusals.Refusal.the-variants.{NotOpen}
 use Rattle.tunnelling.specs.declared.form.Form.{Form}
 use Rattle.tunnelling.specs.declared.form.Form.the-variants.{Crate}
+use Rattle.tunnel_datagram.specs.Hearing.{channelOffset}
 use Rattle.tunnel_datagram.specs.declared.hearing.Heard.{Heard}
 use Rattle.tunnel_datagram.specs.declared.hearing.Heard.the-variants as Heard
 use Rattle.tunnel.specs.declared.rules.Tunnel.{Tunnel}
@@ -33,13 +34,13 @@ use Rattle.tunnel_table.specs.declared.table.Called.{Called}
 
 -- an answer, from what it is seen as and what it says
 abbrev made : Outcome × List Place → Said → Called
-made x a = record { number = x .0 .0 .number; said = a; start = x .0 .0 .start; end = x .0 .0 .end; written = getD (x .0 .0 .values) 1 0; table = record { places = x .1 } }
+made x a = record { number = x .0 .0 .number; said = a; start = x .0 .0 .start; end = x .0 .0 .end; written = getD (x .0 .0 .values) 1 0; offset = x .0 .0 .offset; table = record { places = x .1 } }
 
 pub called-one : (x : Outcome × List Place) (r q : Called) (after later : List ℕ) → calledAs r after ≡ x → calledAs q later ≡ x → (r ≡ q) × (after ≡ later)
 called-one x r q after later a b =
     let e = same a b in
     let said : r .said ≡ q .said = said-one (r .said) (q .said) (ap (λ (y : Outcome × List Place). getD (y .0 .0 .values) 0 0) e) in (
-      ap (λ (w : Said). record { number = r .number; said = w; start = r .start; end = r .end; written = r .written; table = r .table }) said ∙ ap (λ (y : Outcome × List Place). made y (q .said)) e,
+      ap (λ (w : Said). record { number = r .number; said = w; start = r .start; end = r .end; written = r .written; offset = r .offset; table = r .table }) said ∙ ap (λ (y : Outcome × List Place). made y (q .said)) e,
       ap (λ (y : Outcome × List Place). y .0 .1) e,
     )
 
@@ -59,17 +60,18 @@ call-refusing t c r after p n =
     (x .0 .0, x .0 .1, ap (λ (l : List Place). record { places = l }) (x .1))
 
 -- so it is of what was heard
-on-leaves : (b : ℕ) (f : Tunnel → After) (out : List ℕ) (l : List Place) → ((t : Tunnel) → Refuses t out (f t)) → IsRefusal (on b f out l .0) → Zeros (on b f out l .0 .0) × (on b f out l .0 .1 ≡ out) × (on b f out l .1 ≡ l)
-on-leaves b f out l each = go (stateIn kind (firstOf (holds kind b) l)) refl
+on-leaves : (k b : ℕ) (f : Tunnel → After) (out : List ℕ) (l : List Place) → ((t : Tunnel) → Refuses t out (f t))
+    → IsRefusal (on k b f out l .0) → Zeros (on k b f out l .0 .0) × (on k b f out l .0 .1 ≡ out) × (on k b f out l .1 ≡ l)
+on-leaves k b f out l each = go (stateIn kind (firstOf (holds kind b) l)) refl
   where
-    go : (o : Option Tunnel) → stateIn kind (firstOf (holds kind b) l) ≡ o → IsRefusal (onAt o b f out l .0) → Zeros (onAt o b f out l .0 .0) × (onAt o b f out l .0 .1 ≡ out) × (onAt o b f out l .1 ≡ l)
-    go none e n = (refusal-zeros NotOpen n, refl, refl)
+    go : (o : Option Tunnel) → stateIn kind (firstOf (holds kind b) l) ≡ o → IsRefusal (onAt k o b f out l .0) → Zeros (onAt k o b f out l .0 .0) × (onAt k o b f out l .0 .1 ≡ out) × (onAt k o b f out l .1 ≡ l)
+    go none e n = (refusal-zeros (record { why = NotOpen; at = k }) n, refl, refl)
     go (some t) e n = let x = each t n in (x .0, x .1, ap (λ (o : Option Tunnel). putFirst (holds kind b) (placed kind b o) l) (x .2) ∙ put-held kind kindLaws l b t e)
 
 heard-leaves : (f : Form) (h : Heard) (out : List ℕ) (l : List Place) → IsRefusal (heardInOn f h out l .0)
     → Zeros (heardInOn f h out l .0 .0) × (heardInOn f h out l .0 .1 ≡ out) × (heardInOn f h out l .1 ≡ l)
-heard-leaves f (Heard.Request channel n end) out l = on-leaves channel (requestRule f channel n end out) out l (λ t. hears f t (Heard.Request channel n end) out)
-heard-leaves f (Heard.Ack channel n status) out l = on-leaves channel (ackRule n status out) out l (λ t. hears f t (Heard.Ack channel n status) out)
+heard-leaves f (Heard.Request channel n end) out l = on-leaves channelOffset channel (requestRule f channel n end out) out l (λ t. hears f t (Heard.Request channel n end) out)
+heard-leaves f (Heard.Ack channel n status) out l = on-leaves channelOffset channel (ackRule n status out) out l (λ t. hears f t (Heard.Ack channel n status) out)
 heard-leaves f (Heard.Refused e) out l = λ n. (refusal-zeros e n, refl, refl)
 
 pub heard-in-refusing : (f : Form) (t : Table) (h : Heard) (out : List ℕ) (r : Called) (after : List ℕ) → HeardInPromise f t h out r after → (r .number ≡ 0 → ⊥)

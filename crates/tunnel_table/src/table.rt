@@ -3,10 +3,11 @@ ghost use mathlib.Core.Path.{_≡_};
 ghost use mathlib.Core.List.{[]};
 ghost use Prim.Native.Nat.{_<_};
 ghost use Rattle.wire.specs.Refusals.{numberOf};
+ghost use Rattle.tunnel_datagram.specs.Hearing.{channelOffset};
 ghost use Rattle.tunnel_model.specs.Calls.{Open, Close, Timeout, Send, Datagram, DatagramIn};
 ghost use Rattle.tunnel.specs.declared.rules.Said.the-variants.{Nothing};
 ghost use Rattle.tunnel_table.specs.Places.{leftIn};
-ghost use Rattle.tunnel_table.specs.Table.{EmptyPromise, CallPromise, HeardPromise, HeardInPromise, AcknowledgementPromise, ReactPromise, AckPromise, calledAs, on, requestRule, saying, putAt};
+ghost use Rattle.tunnel_table.specs.Table.{EmptyPromise, CallPromise, HeardPromise, HeardInPromise, AcknowledgementPromise, ReactPromise, AckPromise, calledAs, on, requestRule, saying, refusing, putAt};
 use crate::places;
 use crate::places::Found;
 use crate::places::Hold;
@@ -17,11 +18,13 @@ use tunnel::Said;
 use tunnel::Stepped;
 use tunnel::Tunnel;
 use tunnel_datagram::CEMI_START;
+use tunnel_datagram::CHANNEL_OFFSET;
 use tunnel_datagram::Heard;
 use tunnelling::ConnectionHeader;
 use tunnelling::Form;
 use tunnelling::TunnelingAck;
 use tunnelling::TunnelingRequest;
+use wire::Fault;
 use wire::Refusal;
 use wire::Written;
 
@@ -36,6 +39,7 @@ pub struct Called {
     pub start: usize,
     pub end: usize,
     pub written: usize,
+    pub offset: usize,
     pub table: Table,
 }
 
@@ -123,6 +127,7 @@ impl Table {
                             start: 0,
                             end: 0,
                             written,
+                            offset: 0,
                             table,
                         }
                     }
@@ -166,17 +171,20 @@ impl Table {
                 number,
                 status,
             } => self.acknowledgement(channel, number, status),
-            Heard::Refused(why) => self.refuse(why),
+            Heard::Refused(fault) => self.refuse_at(fault),
         }
     }
 
     // The channel is known to be open before anything is written.
     fn request(self, form: Form, channel: u8, number: u8, end: usize, out: &mut [u8]) -> Called
-        ensures { λ r. ⌜ calledAs r (now (out .exit)) ≡ on channel (requestRule form channel number end (now (out .entry))) (now (out .entry)) (self .places) ⌝ }
+        ensures { λ r. ⌜ calledAs r (now (out .exit)) ≡ on channelOffset channel (requestRule form channel number end (now (out .entry))) (now (out .entry)) (self .places) ⌝ }
     {
         let places = self.places;
         match places::find(places, Wanted::Channel(channel)) {
-            Found::Nothing => self.refuse(Refusal::NotOpen), // with the output still untouched
+            Found::Nothing => self.refuse_at(Fault {
+                why: Refusal::NotOpen, // with the output still untouched
+                at: CHANNEL_OFFSET,
+            }),
             Found::At(i) => {
                 let tunnel = places::tunnel_in(places[i]);
                 match tunnel.arrival(number) {
@@ -235,6 +243,7 @@ impl Table {
                     start: reaction.start,
                     end: reaction.end,
                     written,
+                    offset: 0,
                     table,
                 }
             }
@@ -247,7 +256,10 @@ impl Table {
     {
         let all = self.places;
         match places::find(all, Wanted::Channel(channel)) {
-            Found::Nothing => self.refuse(Refusal::NotOpen),
+            Found::Nothing => self.refuse_at(Fault {
+                why: Refusal::NotOpen,
+                at: CHANNEL_OFFSET,
+            }),
             Found::At(i) => {
                 let tunnel = places::tunnel_in(all[i]);
                 self.step(i, channel, tunnel.acknowledged(number, status))
@@ -265,6 +277,7 @@ impl Table {
             start: 0,
             end: 0,
             written: 0,
+            offset: 0,
             table: self,
         }
     }
@@ -273,6 +286,22 @@ impl Table {
         ensures { λ r. ⌜ r ≡ saying self (numberOf why) Nothing ⌝ }
     {
         self.say(why.number(), Said::Nothing)
+    }
+
+    // Refused at a field of a datagram.
+    fn refuse_at(self, fault: Fault) -> Called
+        ensures { λ r. ⌜ r ≡ refusing self fault ⌝ }
+    {
+        let why = fault.why;
+        Called {
+            number: why.number(),
+            said: Said::Nothing,
+            start: 0,
+            end: 0,
+            written: 0,
+            offset: fault.at,
+            table: self,
+        }
     }
 
     fn put(self, i: usize, hold: Hold) -> Table

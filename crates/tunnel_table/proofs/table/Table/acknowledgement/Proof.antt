@@ -2,6 +2,7 @@
 use mathlib.Core.Path.{ap, sym, subst, _∙_}
 use native.Mathlib.Omega.{arith}
 use Rattle.tunnel.specs.declared.rules.Stepped.{Stepped}
+use Rattle.tunnel_datagram.specs.Hearing.{channelOffset}
 use Rattle.tunnel_model.specs.Lone.{stepped}
 use Rattle.tunnel_table.specs.Places.{Below}
 use Rattle.tunnel_table.specs.Table.{calledAs, ackRule}
@@ -17,8 +18,8 @@ find-requires c κs = search needs
 enum-told : tie.Need-enum-told
 enum-told c = search needs
 
-refuse-requires : tie.Need-refuse-requires
-refuse-requires c κs = search needs
+refuse-at-requires : tie.Need-refuse-at-requires
+refuse-at-requires c κs = search needs
 
 enum-known-i : tie.Need-enum-known-i
 enum-known-i c = search needs
@@ -42,7 +43,7 @@ returns : tie.Need-returns
 returns c =
     let a = c .before .before .before .before .before .args in
     λ out.
-    ap (λ (r : Called). calledAs r out) (c .refuse .ensures) ∙ at-none (a .self) (a .channel) (sym (c .before .before .before .find .ensures .0) ∙ c .before .enum-told .given .1) (ackRule (a .number) (a .status) out) out
+    ap (λ (r : Called). calledAs r out) (c .refuse-at .ensures) ∙ at-none (a .self) (a .channel) (sym (c .before .before .before .find .ensures .0) ∙ c .before .enum-told .given .1) channelOffset (ackRule (a .number) (a .status) out) out
 
 returns-2 : tie.Need-returns-2
 returns-2 c =
@@ -52,7 +53,7 @@ returns-2 c =
     let s = c .before .acknowledged .result in
     λ out.
     ap (λ (r : Called). calledAs r out) (c .step .ensures)
-    ∙ at-step (a .self) (a .channel) (c .before .before .before .before .before .i .given .0 .0) _ (sym (c .before .before .before .before .before .before .before .find .ensures .0) ∙ c .before .before .before .before .before .i .given .1) t (at-tunnel .tunnel-in .ensures) (ackRule (a .number) (a .status) out) out s (ap (λ (x : Stepped). stepped x out) (sym (c .before .acknowledged .ensures)))
+    ∙ at-step (a .self) (a .channel) (c .before .before .before .before .before .i .given .0 .0) _ (sym (c .before .before .before .before .before .before .before .find .ensures .0) ∙ c .before .before .before .before .before .i .given .1) t (at-tunnel .tunnel-in .ensures) channelOffset (ackRule (a .number) (a .status) out) out s (ap (λ (x : Stepped). stepped x out) (sym (c .before .acknowledged .ensures)))
 
 pub acknowledgement-spec : {M : Type 1} → statement M
 acknowledgement-spec =
@@ -60,7 +61,7 @@ acknowledgement-spec =
     (tie.spec
     find-requires
     enum-told
-    refuse-requires
+    refuse-at-requires
     enum-known-i
     mul-tunnel-in
     array-copy-out-tunnel-in

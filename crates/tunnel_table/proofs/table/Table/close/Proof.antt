@@ -37,7 +37,7 @@ say-requires c κs = search needs
 returns : tie.Need-returns
 returns c =
     let a = c .before .before .before .before .before .args in
-    ap (λ (r : Called). calledAs r []) (c .refuse .ensures) ∙ at-none (a .self) (a .id) (sym (c .before .before .before .find .ensures .0) ∙ c .before .enum-told .given .1) (λ t. lone t (Close (a .id))) [] ∙ step-on (a .self .places) (Close (a .id)) (a .id) refl refl
+    ap (λ (r : Called). calledAs r []) (c .refuse .ensures) ∙ at-none (a .self) (a .id) (sym (c .before .before .before .find .ensures .0) ∙ c .before .enum-told .given .1) 0 (λ t. lone t (Close (a .id))) [] ∙ step-on (a .self .places) (Close (a .id)) (a .id) refl refl
 
 returns-2 : tie.Need-returns-2
 returns-2 c =

@@ -22,8 +22,8 @@ acknowledgement-requires c κs = search needs
 enum-known-heard-3 : tie.Need-enum-known-heard-3
 enum-known-heard-3 c = search needs
 
-refuse-requires : tie.Need-refuse-requires
-refuse-requires c κs = search needs
+refuse-at-requires : tie.Need-refuse-at-requires
+refuse-at-requires c κs = search needs
 
 same-length : tie.Need-same-length
 same-length c = search needs
@@ -41,7 +41,7 @@ returns-2 c =
 returns-3 : tie.Need-returns-3
 returns-3 c =
     let a = c .before .before .before .before .before .args in
-    ap (λ (r : Called). calledAs r (a .out .now)) (c .refuse .ensures) ∙ ap (λ (h : Heard). heardInOn (a .form) h (a .out .now) (a .self .places)) (sym (c .before .before .heard3 .given .1))
+    ap (λ (r : Called). calledAs r (a .out .now)) (c .refuse-at .ensures) ∙ ap (λ (h : Heard). heardInOn (a .form) h (a .out .now) (a .self .places)) (sym (c .before .before .heard3 .given .1))
 
 pub heard-in-spec : {M : Type 1} → statement M
 heard-in-spec =
@@ -52,7 +52,7 @@ heard-in-spec =
     enum-known-heard-2
     acknowledgement-requires
     enum-known-heard-3
-    refuse-requires
+    refuse-at-requires
     same-length
     returns
     returns-2

@@ -7,6 +7,7 @@ use Rattle.tunnelling.specs.AckForm.{formBy, buildChecks}
 use Rattle.tunnel.specs.declared.rules.Tunnel.{Tunnel}
 use Rattle.tunnel.specs.declared.rules.Said.the-variants.{Deliver, Duplicate, OutOfOrder}
 use Rattle.tunnel.specs.declared.rules.Arrival.{Arrival}
+use Rattle.tunnel_datagram.specs.Hearing.{channelOffset}
 use Rattle.tunnel_model.specs.Lone.{ack, acknowledging, arrived}
 use Rattle.tunnel_table.specs.Places.{Below}
 use Rattle.tunnel_table.specs.Table.{calledAs, requestRule, reactionTold, saying}
@@ -23,8 +24,8 @@ find-requires c κs = search needs
 enum-told : tie.Need-enum-told
 enum-told c = search needs
 
-refuse-requires : tie.Need-refuse-requires
-refuse-requires c κs = search needs
+refuse-at-requires : tie.Need-refuse-at-requires
+refuse-at-requires c κs = search needs
 
 enum-known-i : tie.Need-enum-known-i
 enum-known-i c = search needs
@@ -66,7 +67,7 @@ returns : tie.Need-returns
 returns c =
     let a = c .before .before .before .before .before .before .args in
     let out = a .out .now in
-    ap (λ (r : Called). calledAs r out) (c .refuse .ensures) ∙ at-none (a .self) (a .channel) (sym (c .before .before .before .find .ensures .0) ∙ c .before .enum-told .given .1) (requestRule (a .form) (a .channel) (a .number) (a .end) out) out
+    ap (λ (r : Called). calledAs r out) (c .refuse-at .ensures) ∙ at-none (a .self) (a .channel) (sym (c .before .before .before .find .ensures .0) ∙ c .before .enum-told .given .1) channelOffset (requestRule (a .form) (a .channel) (a .number) (a .end) out) out
 
 same-length : tie.Need-same-length
 same-length c = search needs
@@ -81,7 +82,7 @@ returns-2 c =
     let delivered = c .before .before .before .before in
     let x : Reaction = record { said = Deliver; start = 10; end = a .end; tunnel = delivered .delivered .result } in
     let next = ap (λ (u : Tunnel). acknowledging (a .form) (a .channel) (a .number) out t (reactionTold x (length (ack (a .form) (a .channel) (a .number)))) u) (sym (delivered .delivered .ensures)) in
-    c .before .before .react .ensures ∙ at-react (a .self) (a .channel) i _ (sym (c .before .before .before .before .before .before .before .before .before .before .before .before .before .find .ensures .0) ∙ c .before .before .before .before .before .before .before .before .before .before .before .i .given .1) t (at-tunnel .tunnel-in .ensures) (a .form) (verdict (buildChecks (formBy (a .form)) (length out))) (a .number) x (requestRule (a .form) (a .channel) (a .number) (a .end) out) out (ap (λ (x : Arrival). arrived (a .form) x t (a .channel) (a .number) (a .end) out) (sym (c .before .before .before .before .before .before .before .arrival .ensures) ∙ c .before .before .before .before .before .enum-told2 .given .1) ∙ next)
+    c .before .before .react .ensures ∙ at-react (a .self) (a .channel) i _ (sym (c .before .before .before .before .before .before .before .before .before .before .before .before .before .find .ensures .0) ∙ c .before .before .before .before .before .before .before .before .before .before .before .i .given .1) t (at-tunnel .tunnel-in .ensures) channelOffset (a .form) (verdict (buildChecks (formBy (a .form)) (length out))) (a .number) x (requestRule (a .form) (a .channel) (a .number) (a .end) out) out (ap (λ (x : Arrival). arrived (a .form) x t (a .channel) (a .number) (a .end) out) (sym (c .before .before .before .before .before .before .before .arrival .ensures) ∙ c .before .before .before .before .before .enum-told2 .given .1) ∙ next)
 
 same-length-2 : tie.Need-same-length-2
 same-length-2 c = search needs
@@ -94,7 +95,7 @@ returns-3 c =
     let t = at-tunnel .tunnel-in .result in
     let i = c .before .before .before .before .before .before .before .before .before .before .i .given .0 .0 in
     let x : Reaction = record { said = Duplicate; start = 0; end = 0; tunnel = t } in
-    c .before .before .react2 .ensures ∙ at-react (a .self) (a .channel) i _ (sym (c .before .before .before .before .before .before .before .before .before .before .before .before .find .ensures .0) ∙ c .before .before .before .before .before .before .before .before .before .before .i .given .1) t (at-tunnel .tunnel-in .ensures) (a .form) (verdict (buildChecks (formBy (a .form)) (length out))) (a .number) x (requestRule (a .form) (a .channel) (a .number) (a .end) out) out (ap (λ (x : Arrival). arrived (a .form) x t (a .channel) (a .number) (a .end) out) (sym (c .before .before .before .before .before .before .arrival .ensures) ∙ c .before .before .before .before .enum-told3 .given .1))
+    c .before .before .react2 .ensures ∙ at-react (a .self) (a .channel) i _ (sym (c .before .before .before .before .before .before .before .before .before .before .before .before .find .ensures .0) ∙ c .before .before .before .before .before .before .before .before .before .before .i .given .1) t (at-tunnel .tunnel-in .ensures) channelOffset (a .form) (verdict (buildChecks (formBy (a .form)) (length out))) (a .number) x (requestRule (a .form) (a .channel) (a .number) (a .end) out) out (ap (λ (x : Arrival). arrived (a .form) x t (a .channel) (a .number) (a .end) out) (sym (c .before .before .before .before .before .before .arrival .ensures) ∙ c .before .before .before .before .enum-told3 .given .1))
 
 returns-4 : tie.Need-returns-4
 returns-4 c =
@@ -103,7 +104,7 @@ returns-4 c =
     let at-tunnel = c .before .before .before .before in
     let t = at-tunnel .tunnel-in .result in
     let i = c .before .before .before .before .before .before .before .i .given .0 .0 in
-    ap (λ (r : Called). calledAs r out) (c .say .ensures) ∙ at-kept (a .self) (a .channel) i _ (sym (c .before .before .before .before .before .before .before .before .before .find .ensures .0) ∙ c .before .before .before .before .before .before .before .i .given .1) t (at-tunnel .tunnel-in .ensures) (requestRule (a .form) (a .channel) (a .number) (a .end) out) out (saying (a .self) 0 OutOfOrder) out (ap (λ (x : Arrival). arrived (a .form) x t (a .channel) (a .number) (a .end) out) (sym (c .before .before .before .arrival .ensures) ∙ c .before .enum-told4 .given .1)) refl
+    ap (λ (r : Called). calledAs r out) (c .say .ensures) ∙ at-kept (a .self) (a .channel) i _ (sym (c .before .before .before .before .before .before .before .before .before .find .ensures .0) ∙ c .before .before .before .before .before .before .before .i .given .1) t (at-tunnel .tunnel-in .ensures) channelOffset (requestRule (a .form) (a .channel) (a .number) (a .end) out) out (saying (a .self) 0 OutOfOrder) out (ap (λ (x : Arrival). arrived (a .form) x t (a .channel) (a .number) (a .end) out) (sym (c .before .before .before .arrival .ensures) ∙ c .before .enum-told4 .given .1)) refl
 
 pub request-spec : {M : Type 1} → statement M
 request-spec =
@@ -111,7 +112,7 @@ request-spec =
     (tie.spec
     find-requires
     enum-told
-    refuse-requires
+    refuse-at-requires
     enum-known-i
     mul-tunnel-in
     array-copy-out-tunnel-in

@@ -65,7 +65,7 @@ returns c =
     let t = at-tunnel .tunnel-in .result in
     let i = c .before .before .before .before .before .before .i .given .0 .0 in
     ap (λ (r : Called). calledAs r out) (c .refuse2 .ensures)
-    ∙ at-kept (a .self) (a .id) i _ (sym (c .before .before .before .before .before .before .before .before .find .ensures .0) ∙ c .before .before .before .before .before .before .i .given .1) t (at-tunnel .tunnel-in .ensures) (λ x. lone x (Send (a .id) cemi out)) out (saying (a .self) (numberOf AwaitsAck) Nothing) out (awaits t (a .id) cemi out (sym (c .before .before .waits .ensures) ∙ c .before .if1 .taken)) refl
+    ∙ at-kept (a .self) (a .id) i _ (sym (c .before .before .before .before .before .before .before .before .find .ensures .0) ∙ c .before .before .before .before .before .before .i .given .1) t (at-tunnel .tunnel-in .ensures) 0 (λ x. lone x (Send (a .id) cemi out)) out (saying (a .self) (numberOf AwaitsAck) Nothing) out (awaits t (a .id) cemi out (sym (c .before .before .waits .ensures) ∙ c .before .if1 .taken)) refl
     ∙ step-on (a .self .places) call (a .id) refl refl
 
 new-requires : tie.Need-new-requires
@@ -98,7 +98,7 @@ returns-2 c =
     let cemi = a .cemi .now in
     let out = a .out .now in
     let call = Send (a .id) cemi out in
-    ap (λ (r : Called). calledAs r out) (c .refuse .ensures) ∙ at-none (a .self) (a .id) (sym (c .before .before .before .find .ensures .0) ∙ c .before .enum-told .given .1) (λ x. lone x (Send (a .id) cemi out)) out
+    ap (λ (r : Called). calledAs r out) (c .refuse .ensures) ∙ at-none (a .self) (a .id) (sym (c .before .before .before .find .ensures .0) ∙ c .before .enum-told .given .1) 0 (λ x. lone x (Send (a .id) cemi out)) out
     ∙ step-on (a .self .places) call (a .id) refl refl
 
 same-length : tie.Need-same-length
@@ -123,7 +123,7 @@ returns-3 c =
     let said : ℕ → Told = λ k. done (saidOf Nothing ∷ k ∷ []) in
     let gets = sends t (a .id) cemi out (sym (c .before .before .before .before .before .before .before .before .before .before .before .before .waits .ensures) ∙ c .before .before .before .before .before .before .before .before .before .before .before .if1 .left) (was-written cs w out k after x) in
     let u = c .before .sending .result in
-    at-put (a .self) (a .id) i _ (sym (c .before .before .before .before .before .before .before .before .before .before .before .before .before .before .before .before .before .before .find .ensures .0) ∙ c .before .before .before .before .before .before .before .before .before .before .before .before .before .before .before .before .i .given .1) t (at-tunnel .tunnel-in .ensures) (λ x. lone x (Send (a .id) cemi out)) out (record { number = 0; said = Nothing; start = 0; end = 0; written = k; table = c .put .result }) after u
+    at-put (a .self) (a .id) i _ (sym (c .before .before .before .before .before .before .before .before .before .before .before .before .before .before .before .before .before .before .find .ensures .0) ∙ c .before .before .before .before .before .before .before .before .before .before .before .before .before .before .before .before .i .given .1) t (at-tunnel .tunnel-in .ensures) 0 (λ x. lone x (Send (a .id) cemi out)) out (record { number = 0; said = Nothing; start = 0; end = 0; written = k; offset = 0; table = c .put .result }) after u
     (written-as said w out k after (some (sendingOf t)) (lone t call) (wrote cs w out k after x) gets ∙ ap (λ (v : Tunnel). ((said k, after), some v)) (sym (c .before .sending .ensures)))
     (c .put .ensures)
     ∙ step-on (a .self .places) call (a .id) refl refl
@@ -149,7 +149,7 @@ returns-4 c =
     let e = c .before .before .why .given .0 .0 in
     let unwritten = was-unwritten cs w out e after x in
     ap (λ (r : Called). calledAs r after) (c .refuse3 .ensures)
-    ∙ at-kept (a .self) (a .id) i _ (sym (c .before .before .before .before .before .before .before .before .before .before .before .before .before .before .before .before .before .find .ensures .0) ∙ c .before .before .before .before .before .before .before .before .before .before .before .before .before .before .before .i .given .1) t (at-tunnel .tunnel-in .ensures) (λ x. lone x (Send (a .id) cemi out)) out (saying (a .self) (numberOf e) Nothing) after
+    ∙ at-kept (a .self) (a .id) i _ (sym (c .before .before .before .before .before .before .before .before .before .before .before .before .before .before .before .before .before .find .ensures .0) ∙ c .before .before .before .before .before .before .before .before .before .before .before .before .before .before .before .i .given .1) t (at-tunnel .tunnel-in .ensures) 0 (λ x. lone x (Send (a .id) cemi out)) out (saying (a .self) (numberOf e) Nothing) after
     (sends-not t (a .id) cemi out e (sym (c .before .before .before .before .before .before .before .before .before .before .before .waits .ensures) ∙ c .before .before .before .before .before .before .before .before .before .before .if1 .left) (unwritten .0) ∙ ap (λ (l : List ℕ). (refuses e l, some t)) (sym (unwritten .1))) refl
     ∙ step-on (a .self .places) call (a .id) refl refl
 

@@ -43,7 +43,7 @@ step-requires c κs = subst Below (c .before .before .before .before .i .given .
 returns : tie.Need-returns
 returns c =
     let a = c .before .before .before .before .before .args in
-    ap (λ (r : Called). calledAs r []) (c .refuse .ensures) ∙ at-none (a .self) (a .id) (sym (c .before .before .before .find .ensures .0) ∙ c .before .enum-told .given .1) (λ t. lone t (Timeout (a .id))) [] ∙ step-on (a .self .places) (Timeout (a .id)) (a .id) refl refl
+    ap (λ (r : Called). calledAs r []) (c .refuse .ensures) ∙ at-none (a .self) (a .id) (sym (c .before .before .before .find .ensures .0) ∙ c .before .enum-told .given .1) 0 (λ t. lone t (Timeout (a .id))) [] ∙ step-on (a .self .places) (Timeout (a .id)) (a .id) refl refl
 
 returns-2 : tie.Need-returns-2
 returns-2 c =
@@ -52,7 +52,7 @@ returns-2 c =
     let t = at-tunnel .tunnel-in .result in
     let s = c .before .timeout .result in
     ap (λ (r : Called). calledAs r []) (c .step .ensures)
-    ∙ at-step (a .self) (a .id) (c .before .before .before .before .before .i .given .0 .0) _ (sym (c .before .before .before .before .before .before .before .find .ensures .0) ∙ c .before .before .before .before .before .i .given .1) t (at-tunnel .tunnel-in .ensures) (λ x. lone x (Timeout (a .id))) [] s (ap (λ (x : Stepped). stepped x []) (sym (c .before .timeout .ensures)))
+    ∙ at-step (a .self) (a .id) (c .before .before .before .before .before .i .given .0 .0) _ (sym (c .before .before .before .before .before .before .before .find .ensures .0) ∙ c .before .before .before .before .before .i .given .1) t (at-tunnel .tunnel-in .ensures) 0 (λ x. lone x (Timeout (a .id))) [] s (ap (λ (x : Stepped). stepped x []) (sym (c .before .timeout .ensures)))
     ∙ step-on (a .self .places) (Timeout (a .id)) (a .id) refl refl
 
 pub timeout-spec : {M : Type 1} → statement M
