@@ -9,6 +9,7 @@ use lib.ListN.{length, take, drop, getD, length-append}
 use lib.Dec.{eqb, ltb}
 use lib.Seq.{take-suc, take-all, length-take-le}
 use borrow.Author.Tests.{lt-ltb, le-ltb, eqb-true, eqb-false}
+use Rattle.wire.specs.Told.{nowhere}
 use Rattle.wire.specs.LayoutLaws.{get-put, copied-behind}
 use Rattle.wire.specs.Layout.{get, copied}
 use Rattle.wire.specs.Writing.{onto}
@@ -125,7 +126,7 @@ image-leaves image c = go (ltb (length image) 40)
     at false e n = refl
 
     go : (b : Bool) → LeavesImage image c (cond b (refuses BufferTooSmall (outOf c), image) (packedOnto image (stepIn image c)))
-    go true n = ((refusal-zeros BufferTooSmall n, refl), refl)
+    go true n = ((refusal-zeros (nowhere BufferTooSmall) n, refl), refl)
     go false n = (table-leaves kind kindLaws (unpacked image) c n .0, at (eqb (stepIn image c .0 .0 .number) 0) refl n)
 
 pub pack-one : (l : List Place) (image : List ℕ) (r q : Written) (after later : List ℕ) → PackPromise l image r after → PackPromise l image q later → (r ≡ q) × (after ≡ later)
