@@ -1,4 +1,4 @@
--- What the border's builders promise: the promise of the builder below, whose answer is told as two numbers. Assumes nothing.
+-- What the border's builders promise: the promise of the builder below, whose answer is told in numbers. Assumes nothing.
 use Prim.Native.Nat.{ℕ}
 use mathlib.Core.Path.{_≡_}
 use mathlib.Core.List.{List, [], _∷_}
@@ -33,7 +33,7 @@ use Rattle.knx.specs.declared.building.KnxWritten.{KnxWritten}
 use Rattle.knx.specs.declared.building.KnxEndpoint.{KnxEndpoint}
 
 abbrev pub told : KnxWritten → Told
-told r = record { number = r .number; values = r .count ∷ []; start = 0; end = 0 }
+told r = record { number = r .number; values = r .count ∷ []; start = 0; end = 0; offset = r .offset }
 
 abbrev pub WrittenPromise : Written → KnxWritten → Type 0
 WrittenPromise w r = told r ≡ Writing.told w

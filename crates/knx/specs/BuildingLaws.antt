@@ -38,7 +38,7 @@ pub tpci-is : (byte : ℕ) (t : Tpci) → Transport.FromPromise byte t → t ≡
 tpci-is byte t p = sym (tpci-back t []) ∙ ap (λ (vs : List ℕ). tpciOf (vs ++ [])) p
 
 told-one : (r q : KnxWritten) → told r ≡ told q → r ≡ q
-told-one = one-to-one told (λ t. record { count = getD (t .values) 0 0; number = t .number }) (λ r. refl)
+told-one = one-to-one told (λ t. record { count = getD (t .values) 0 0; offset = t .offset; number = t .number }) (λ r. refl)
 
 -- one answer, and one buffer afterwards
 abbrev OneWritten : (KnxWritten → List ℕ → Type 0) → Type 0

@@ -7,7 +7,7 @@ use lib.ListN.{length}
 use lib.Dec.{eqb}
 use Rattle.wire.specs.Told.{Told, refused}
 use Rattle.wire.specs.Writing.{leaves, room}
-use Rattle.wire.specs.declared.refusals.Refusal.{Refusal}
+use Rattle.wire.specs.declared.refusals.Fault.{Fault}
 use Rattle.tunnelling.specs.declared.form.Form.{Form}
 use Rattle.tunnelling.specs.declared.form.Form.the-variants.{Standard}
 use Rattle.tunnel_model.specs.Calls.{Call, Open, Close, Timeout, Send, Datagram, DatagramIn}
@@ -22,7 +22,7 @@ use Rattle.knx.specs.declared.called.KnxCalled.{KnxCalled}
 
 -- what is said, by the numbers of `saidOf`, and the count of bytes written; the view
 abbrev pub told : KnxCalled → Told
-told r = record { number = r .number; values = r .said ∷ r .written ∷ []; start = r .start; end = r .end }
+told r = record { number = r .number; values = r .said ∷ r .written ∷ []; start = r .start; end = r .end; offset = r .offset }
 
 -- the answer, the output afterwards and the image afterwards
 abbrev pub CallPromise : List ℕ → Call → KnxCalled → List ℕ → List ℕ → Type 0
@@ -60,5 +60,5 @@ abbrev pub KeepPromise : Called → List ℕ → KnxCalled → List ℕ → Type
 KeepPromise q image r after =
     (told r ≡ Table.told q) × (after ≡ cond (eqb (q .number) 0) (leaves (room (length (packed (q .table .places))) (length image) ∷ []) (packed (q .table .places)) image) image)
 
-abbrev pub RefusedPromise : Refusal → KnxCalled → Type 0
+abbrev pub RefusedPromise : Fault → KnxCalled → Type 0
 RefusedPromise e r = told r ≡ refused 2 e

@@ -8,8 +8,8 @@ use lib.ListN.{length, getD, drop}
 use lib.Dec.{eqb}
 use borrow.Author.Tests.{le-ltb, ne-eqb}
 use Rattle.wire.specs.Refusals.{numberOf}
-use Rattle.wire.specs.Told.{Told, refused}
-use Rattle.wire.specs.declared.refusals.Refusal.{Refusal}
+use Rattle.wire.specs.Told.{Told, refused, nowhere}
+use Rattle.wire.specs.declared.refusals.Fault.{Fault}
 use Rattle.wire.specs.declared.refusals.Refusal.the-variants.{BufferTooSmall}
 use Rattle.wire.specs.ToldLaws.{same, one-to-one, never-done}
 use Rattle.wire.specs.WritingLaws.{wrote}
@@ -39,14 +39,14 @@ use Rattle.knx.specs.declared.building.KnxWritten.{KnxWritten}
 use Rattle.knx.specs.declared.called.KnxCalled.{KnxCalled}
 
 -- an image that is too small
-pub small-call : (image : List ℕ) (c : Call) (r : KnxCalled) → length image < 40 → RefusedPromise BufferTooSmall r → CallPromise image c r image (outOf c)
+pub small-call : (image : List ℕ) (c : Call) (r : KnxCalled) → length image < 40 → RefusedPromise (nowhere BufferTooSmall) r → CallPromise image c r image (outOf c)
 small-call image c r h p = ap (λ (t : Told). ((t, outOf c), image)) p ∙ sym (on-small image c h)
 
 -- a datagram that is refused by its bytes alone
-pub unheard-call : (f : Form) (image bytes out : List ℕ) (e : Refusal) (r : KnxCalled) → 40 ≤ length image → heardIn f bytes ≡ Heard.Refused e → RefusedPromise e r → CallPromise image (DatagramIn f bytes out) r image out
+pub unheard-call : (f : Form) (image bytes out : List ℕ) (e : Fault) (r : KnxCalled) → 40 ≤ length image → heardIn f bytes ≡ Heard.Refused e → RefusedPromise e r → CallPromise image (DatagramIn f bytes out) r image out
 unheard-call f image bytes out e r enough h p =
     ap (λ (t : Told). ((t, out), image)) p
-    ∙ ap (λ (b : Bool). ((refused 2 e, out), cond b (onto image (packed (unpacked image))) image)) (sym (ne-eqb (numberOf e) 0 (never-done e)))
+    ∙ ap (λ (b : Bool). ((refused 2 e, out), cond b (onto image (packed (unpacked image))) image)) (sym (ne-eqb (numberOf (e .why)) 0 (never-done (e .why))))
     ∙ ap (packedOnto image) (step-heard f (unpacked image) bytes out (Heard.Refused e) h) ∙ sym (on-enough image (DatagramIn f bytes out) enough)
 
 -- the image is unpacked, the table is called, and what it gave is kept
@@ -73,7 +73,7 @@ empty-is image r after x z = go (x .answer) (x .keeps) (x .tells)
 -- ---- no second answer: of the answer, the image and the output
 
 calledFrom : Told → KnxCalled
-calledFrom t = record { start = t .start; end = t .end; written = getD (t .values) 1 0; said = getD (t .values) 0 0; number = t .number }
+calledFrom t = record { start = t .start; end = t .end; written = getD (t .values) 1 0; offset = t .offset; said = getD (t .values) 0 0; number = t .number }
 
 told-one : (r q : KnxCalled) → told r ≡ told q → r ≡ q
 unfolding calledFrom

@@ -5,8 +5,9 @@ use mathlib.Core.Bool.{Bool, cond}
 use mathlib.Core.List.{List, [], _∷_, _++_}
 use lib.ListN.{getD, take}
 use Rattle.wire.specs.Told.{Told, done, Check, judged, refused}
+use Rattle.wire.specs.Places.{located}
 use Rattle.wire.specs.Layout.{get}
-use Rattle.wire.specs.declared.refusals.Refusal.{Refusal}
+use Rattle.wire.specs.declared.refusals.Fault.{Fault}
 use Rattle.constants.specs.MessageCodes.{messageOf}
 use Rattle.pci.specs.Application as Application
 use Rattle.pci.specs.declared.application.Apci.{Apci}
@@ -17,7 +18,7 @@ use Rattle.ldata.specs.declared.count.Counting.{Counting}
 use Rattle.ldata.specs.declared.ldata.LDataFields.{LDataFields}
 use Rattle.ldata.specs.declared.ldata.LDataAnswer.{LDataAnswer}
 use Rattle.ldata.specs.declared.ldata.LDataAnswer.the-variants.{Frame}
-use Rattle.cemi.specs.Cemi.{codeIn, infoLength, serviceInfo, ldataChecks}
+use Rattle.cemi.specs.Cemi.{codeIn, infoLength, serviceInfo, ldataChecks, ldataOffsets, restOffsets}
 use Rattle.cemi.specs.Cemi as Cemi
 use Rattle.cemi.specs.declared.CEMIFrame.{CEMIFrame}
 use Rattle.knx.specs.declared.cemi_ldata.Service.{Service}
@@ -32,6 +33,7 @@ told r = record {
       ∷ r .«apci_named» ∷ r .«apci_code» ∷ r .«control_code» ∷ r .«six_bit» ∷ [];
   start = r .start;
   end = r .end;
+  offset = r .offset;
 }
 
 -- the record that the parse makes of these bytes
@@ -44,6 +46,13 @@ checksIn C s = Cemi.checks s ++ ldataChecks (frameIn s) s ++ byteChecks C (servi
 
 abbrev pub checks : List ℕ → List Check
 checks s = checksIn crateCount s
+
+-- beside them, in either count, the offsets of each part, moved by where it starts
+abbrev pub offsets : List ℕ → List ℕ
+offsets s = Cemi.offsets s ++ ldataOffsets ++ restOffsets s
+
+abbrev pub judgedWhere : Count → List ℕ → Told → Told
+judgedWhere C s t = located (checksIn C s) (offsets s) (judged (checksIn C s) t)
 
 -- whether the rest is a data packet
 abbrev pub dataIn : List ℕ → Bool
@@ -76,28 +85,29 @@ numbersIn C s = record {
       codeIn s ∷ take 7 (valuesIn C (serviceInfo s)) ++ serviceIn C (dataIn (serviceInfo s)) (getD (serviceInfo s) 7 0) (getD (serviceInfo s) 8 0);
   start = 2 + infoLength s + startOf (dataIn (serviceInfo s));
   end = 2 + infoLength s + C .endOf (lengthIn (get LData.fields 0 (serviceInfo s)));
+  offset = 0;
 }
 
 abbrev pub ldataIn : List ℕ → Told
 ldataIn s = numbersIn crateCount s
 
 abbrev pub CemiLDataPromise : List ℕ → KnxLData → Type 0
-CemiLDataPromise s r = told r ≡ judged (checks s) (ldataIn s)
+CemiLDataPromise s r = told r ≡ judgedWhere crateCount s (ldataIn s)
 
 -- in the standard count
 abbrev pub CemiLDataStandardPromise : List ℕ → KnxLData → Type 0
-CemiLDataStandardPromise s r = told r ≡ judged (checksIn standardCount s) (numbersIn standardCount s)
+CemiLDataStandardPromise s r = told r ≡ judgedWhere standardCount s (numbersIn standardCount s)
 
 -- in the count that is given
 abbrev pub CemiLDataInPromise : Counting → List ℕ → KnxLData → Type 0
-CemiLDataInPromise c s r = told r ≡ judged (checksIn (countBy c) s) (numbersIn (countBy c) s)
+CemiLDataInPromise c s r = told r ≡ judgedWhere (countBy c) s (numbersIn (countBy c) s)
 
 -- what parse and as_ldata together answer
 abbrev pub AnswerInPromise : Counting → List ℕ → LDataAnswer → Type 0
-AnswerInPromise c s a = LData.told a ≡ judged (checksIn (countBy c) s) (done (valuesIn (countBy c) (serviceInfo s)))
+AnswerInPromise c s a = LData.told a ≡ judgedWhere (countBy c) s (done (valuesIn (countBy c) (serviceInfo s)))
 
 -- twelve zeros beside the number
-abbrev pub RefusedPromise : Refusal → KnxLData → Type 0
+abbrev pub RefusedPromise : Fault → KnxLData → Type 0
 RefusedPromise e r = told r ≡ refused 12 e
 
 -- what is read once the L_Data is known to be accepted

@@ -7,12 +7,12 @@ use mathlib.Core.List.{List, [], _∷_, _++_}
 use lib.ListN.{length, getD, take}
 use lib.Dec.{ltb}
 use Rattle.wire.specs.Clash.{never}
-use Rattle.wire.specs.Told.{Told, done, viewed, Check, _⇒_, verdict, judged}
-use Rattle.wire.specs.ToldLaws.{one-to-one, same, stays, let-pass, let-refuse, let-through, was-accepted, was-refused}
+use Rattle.wire.specs.Told.{Told, done, viewed, Check, _⇒_, verdict}
+use Rattle.wire.specs.ToldLaws.{one-to-one, same, let-pass, let-through, was-accepted}
+use Rattle.wire.specs.PlaceLaws.{located-pass, located-fall, was-fallen}
 use Rattle.wire.specs.Parts.{partOf}
-use Rattle.wire.specs.Parts as Parts
 use Rattle.wire.specs.declared.parts.View.{View}
-use Rattle.wire.specs.declared.refusals.Refusal.{Refusal}
+use Rattle.wire.specs.declared.refusals.Fault.{Fault}
 use Rattle.wire.specs.declared.refusals.Verdict.the-variants.{Accept, Refuse}
 use Rattle.constants.specs.MessageCodes.{codeOf, messageOf}
 use Rattle.constants.specs.MessageCodeLaws as MessageCodeLaws
@@ -36,7 +36,7 @@ use Rattle.cemi.specs.Cemi as Cemi
 use Rattle.cemi.specs.CemiLaws as CemiLaws
 use Rattle.cemi.specs.declared.CEMIFrame.{CEMIFrame}
 use Rattle.cemi.specs.declared.CEMIAnswer.the-variants as CEMIAnswer
-use Rattle.knx.specs.CemiLData.{told, frameIn, checksIn, dataIn, apciNumbers, namedIn, sixBitIn, serviceIn, ServiceInPromise, numbersIn, CemiLDataInPromise, AnswerInPromise, RefusedPromise, Accepted, ReadPromise}
+use Rattle.knx.specs.CemiLData.{told, frameIn, checksIn, offsets, dataIn, apciNumbers, namedIn, sixBitIn, serviceIn, ServiceInPromise, numbersIn, CemiLDataInPromise, AnswerInPromise, RefusedPromise, Accepted, ReadPromise}
 use Rattle.knx.specs.declared.cemi_ldata.Service.{Service}
 use Rattle.knx.specs.declared.cemi_ldata.KnxLData.{KnxLData}
 
@@ -71,12 +71,10 @@ module _ (c : Counting) (s : List ℕ) where
 
   -- a frame of a cEMI that was parsed, and one that was not
   pub as-ldata : (f : CEMIFrame) → Cemi.ParsePromise s (CEMIAnswer.Frame f) → (a : LDataAnswer) → Cemi.AsLDataInPromise c f s a → AnswerInPromise c s a
-  as-ldata f parsed a q = q ∙ ap (λ (g : CEMIFrame). Cemi.asLDataIn C g s) (frame-is s f parsed)
+  as-ldata f parsed a q = q ∙ ap (λ (g : CEMIFrame). Cemi.asLDataWhere C g s) (frame-is s f parsed)
 
-  pub no-cemi : (e : Refusal) → Cemi.ParsePromise s (CEMIAnswer.Refused e) → AnswerInPromise c s (LDataAnswer.Refused e)
-  no-cemi e q =
-      let first : verdict (Cemi.checks s ++ ldataChecks (frameIn s) s) ≡ Refuse e = stays (Cemi.checks s) (ldataChecks (frameIn s) s) e (CemiLaws.fell s e q) in
-      sym (let-refuse cs t e (stays (Cemi.checks s ++ ldataChecks (frameIn s) s) (byteChecks C (serviceInfo s)) e first))
+  pub no-cemi : (e : Fault) → Cemi.ParsePromise s (CEMIAnswer.Refused e) → AnswerInPromise c s (LDataAnswer.Refused e)
+  no-cemi e q = CemiLaws.no-cemi C (frameIn s) s e (CemiLaws.fell s e q)
 
   all-hold : (g : LDataFields) → AnswerInPromise c s (LDataAnswer.Frame g) → verdict cs ≡ Accept
   all-hold g q = was-accepted cs t (LData.told (LDataAnswer.Frame g)) refl q
@@ -85,13 +83,14 @@ module _ (c : Counting) (s : List ℕ) where
   pub accepted : (g : LDataFields) → AnswerInPromise c s (LDataAnswer.Frame g) → Accepted c s g
   accepted g q =
       let-through cs t (LData.told (LDataAnswer.Frame g)) refl q
-      ∙ sym (let-pass (byteChecks C (serviceInfo s)) t (last-hold (Cemi.checks s ++ ldataChecks (frameIn s) s) (byteChecks C (serviceInfo s)) (all-hold g q)))
+      ∙ sym (located-pass (byteChecks C (serviceInfo s)) (LData.offsets (length (serviceInfo s))) t (CemiLaws.rest-each C s) refl
+      (last-hold (Cemi.checks s ++ ldataChecks (frameIn s) s) (byteChecks C (serviceInfo s)) (all-hold g q)))
 
   pub all-read : (g : LDataFields) (r : KnxLData) → AnswerInPromise c s (LDataAnswer.Frame g) → ReadPromise c s r → CemiLDataInPromise c s r
-  all-read g r q p = p ∙ sym (let-pass cs (numbersIn C s) (all-hold g q))
+  all-read g r q p = p ∙ sym (located-pass cs (offsets s) (numbersIn C s) (CemiLaws.all-each C (frameIn s) s) refl (all-hold g q))
 
-  pub no-ldata : (e : Refusal) (r : KnxLData) → AnswerInPromise c s (LDataAnswer.Refused e) → RefusedPromise e r → CemiLDataInPromise c s r
-  no-ldata e r q p = p ∙ sym (let-refuse cs (numbersIn C s) e (was-refused cs t 9 e refl q))
+  pub no-ldata : (e : Fault) (r : KnxLData) → AnswerInPromise c s (LDataAnswer.Refused e) → RefusedPromise e r → CemiLDataInPromise c s r
+  no-ldata e r q p = p ∙ sym (located-fall cs (offsets s) (numbersIn C s) e (was-fallen cs (offsets s) t 9 e refl q))
 
 -- ---- the numbers of the bytes are those of the record
 
@@ -128,6 +127,7 @@ pub reads : (c : Counting) (s : List ℕ) (f : LDataFields) → Accepted c s f �
           ∷ v .«apci_named» ∷ v .«apci_code» ∷ v .«control_code» ∷ v .«six_bit» ∷ [];
       start = 2 + n + startOf (ltb (first / 64) 2);
       end = 2 + n + countBy c .endOf (f .«npdu_length»);
+      offset = 0;
     } ≡ numbersIn (countBy c) s
 reads c s f p n rest e r first second x y v four =
     let nine : values f ≡ valuesIn (countBy c) (serviceInfo s) = LDataLaws.read (countBy c) (serviceInfo s) f p in
@@ -142,9 +142,9 @@ view-is : (c : Counting) (rest : List ℕ) (f : LDataFields) → LData.ParseInPr
 view-is c rest f parsed v p =
     let cs = byteChecks (countBy c) rest in
     let at = viewed (startOf (dataIn rest)) (countBy c .endOf (getD rest 6 0)) in
-    let e : Parts.told v ≡ at =
-    p ∙ LDataLaws.data-read (countBy c) rest f parsed ∙ let-pass cs at (was-accepted cs (done (valuesIn (countBy c) rest)) (LData.told (LDataAnswer.Frame f)) refl parsed) in
-    (ap (λ (t : Told). t .start) e, ap (λ (t : Told). t .end) e)
+    let e : LData.dataBy01 (countBy c) f rest ≡ at =
+    LDataLaws.data-read (countBy c) rest f parsed ∙ let-pass cs at (was-accepted cs (done (valuesIn (countBy c) rest)) (LData.told (LDataAnswer.Frame f)) refl parsed) in
+    (ap (λ (t : Told). t .start) p ∙ ap (λ (t : Told). t .start) e, ap (λ (t : Told). t .end) p ∙ ap (λ (t : Told). t .end) e)
 
 -- the numbers that are told are those of the records that `parse`, `as_ldata_in` and `data_in` answer
 pub ldata-as : (c : Counting) (s : List ℕ) (r : KnxLData) (f : CEMIFrame) (g : LDataFields) (v : View)
@@ -154,6 +154,7 @@ pub ldata-as : (c : Counting) (s : List ℕ) (r : KnxLData) (f : CEMIFrame) (g :
       values = codeOf (f .«message_code») ∷ take 7 (values g) ++ apciNumbers (isData (g .tpci)) (g .apci) ++ sixBitIn (isData (g .tpci)) (getD (serviceInfo s) 8 0) ∷ [];
       start = 2 + infoLength s + v .start;
       end = 2 + infoLength s + v .end;
+      offset = 0;
     }
 ldata-as c s r f g v p parsed read view =
     let C : Count = countBy c in
@@ -164,8 +165,8 @@ ldata-as c s r f g v p parsed read view =
     let d : Bool = dataIn rest in
     let there : Apci = apciIn C d (getD rest 7 0) (getD rest 8 0) in
     let of : ℕ → List ℕ → Bool → Apci → ℕ → ℕ → Told = λ code vs k a start end.
-    record { number = 0; values = code ∷ take 7 vs ++ apciNumbers k a ++ sixBitIn k (getD rest 8 0) ∷ []; start = 2 + infoLength s + start; end = 2 + infoLength s + end } in
-    p ∙ let-pass (checksIn C s) (numbersIn C s) (all-hold c s g answered)
+    record { number = 0; values = code ∷ take 7 vs ++ apciNumbers k a ++ sixBitIn k (getD rest 8 0) ∷ []; start = 2 + infoLength s + start; end = 2 + infoLength s + end; offset = 0 } in
+    p ∙ located-pass (checksIn C s) (offsets s) (numbersIn C s) (CemiLaws.all-each C (frameIn s) s) refl (all-hold c s g answered)
     ∙ sym
     (ap (λ (code : ℕ). of code (values g) (isData (g .tpci)) (g .apci) (v .start) (v .end)) (code-is s f parsed)
     ∙ ap (λ (vs : List ℕ). of (codeIn s) vs (isData (g .tpci)) (g .apci) (v .start) (v .end)) (LDataLaws.read C rest g on-rest)
@@ -180,6 +181,7 @@ ldataFrom : Told → KnxLData
 ldataFrom t = record {
   start = t .start;
   end = t .end;
+  offset = t .offset;
   source = getD (t .values) 3 0;
   destination = getD (t .values) 4 0;
   «apci_code» = getD (t .values) 9 0;

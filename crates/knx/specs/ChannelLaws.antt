@@ -11,7 +11,7 @@ use Rattle.knx.specs.declared.channel.KnxStatus.{KnxStatus}
 use Rattle.knx.specs.declared.channel.KnxDisconnectRequest.{KnxDisconnectRequest}
 
 pub status-one : (s : List ℕ) (r q : KnxStatus) → StatusPromise s r → StatusPromise s q → r ≡ q
-status-one s r q a b = one-to-one told (λ t. record { channel = getD (t .values) 0 0; status = getD (t .values) 1 0; number = t .number }) (λ x. refl) r q (same a b)
+status-one s r q a b = one-to-one told (λ t. record { offset = t .offset; channel = getD (t .values) 0 0; status = getD (t .values) 1 0; number = t .number }) (λ x. refl) r q (same a b)
 
 pub disconnect-request-one : (s : List ℕ) (r q : KnxDisconnectRequest) → DisconnectRequestPromise s r → DisconnectRequestPromise s q → r ≡ q
 disconnect-request-one s r q a b = ap requestFrom (ChannelLaws.request-parse-one s (requestAnswer r) (requestAnswer q) a b)
@@ -19,4 +19,4 @@ disconnect-request-one s r q a b = ap requestFrom (ChannelLaws.request-parse-one
     requestFrom : DisconnectRequestAnswer → KnxDisconnectRequest
     requestFrom x =
         let e = x .request .«control_endpoint» in
-        record { channel = x .request .«channel_id»; «structure_length» = e .«structure_length»; «host_protocol» = e .«host_protocol»; address = e .«ip_address»; port = e .port; number = x .number }
+        record { offset = x .offset; channel = x .request .«channel_id»; «structure_length» = e .«structure_length»; «host_protocol» = e .«host_protocol»; address = e .«ip_address»; port = e .port; number = x .number }

@@ -22,26 +22,26 @@ use Rattle.knx.specs.declared.info.KnxCount.{KnxCount}
 
 -- where the area stands in a cEMI frame
 abbrev pub toldPart : KnxPart → Told
-toldPart r = record { number = r .number; values = []; start = r .start; end = r .end }
+toldPart r = record { number = r .number; values = []; start = r .start; end = r .end; offset = r .offset }
 
 abbrev pub AreaPromise : List ℕ → KnxPart → Type 0
-AreaPromise s r = toldPart r ≡ Cemi.infoBy02 s
+AreaPromise s r = toldPart r ≡ Cemi.infoWhere s
 
 -- a record of an area, or none
 abbrev pub told : KnxAdditionalInfo → Told
-told r = record { number = r .number; values = r .found ∷ r .named ∷ r .«info_type» ∷ r .timestamped ∷ r .timestamp ∷ []; start = r .start; end = r .end }
+told r = record { number = r .number; values = r .found ∷ r .named ∷ r .«info_type» ∷ r .timestamped ∷ r .timestamp ∷ []; start = r .start; end = r .end; offset = r .offset }
 
 abbrev pub FirstPromise : List ℕ → KnxAdditionalInfo → Type 0
-FirstPromise s r = told r ≡ Area.parseBy02 s
+FirstPromise s r = told r ≡ Area.parseWhere s
 
 abbrev pub NthPromise : List ℕ → ℕ → KnxAdditionalInfo → Type 0
-NthPromise s n r = told r ≡ Area.nthBy02 s n
+NthPromise s n r = told r ≡ Area.nthWhere s n
 
 abbrev pub toldCount : KnxCount → Told
-toldCount r = record { number = r .number; values = r .count ∷ []; start = 0; end = 0 }
+toldCount r = record { number = r .number; values = r .count ∷ []; start = 0; end = 0; offset = r .offset }
 
 abbrev pub CountPromise : List ℕ → KnxCount → Type 0
-CountPromise s r = toldCount r ≡ Area.countBy02 s
+CountPromise s r = toldCount r ≡ Area.countWhere s
 
 -- the record's type is the one of its number
 abbrev pub AppendPromise : List ℕ → ℕ → List ℕ → List ℕ → KnxWritten → List ℕ → Type 0
@@ -62,5 +62,5 @@ PartPromise v r = toldPart r ≡ Parts.told v
 abbrev pub RecordPromise : AdditionalInfoAnswer → KnxAdditionalInfo → Type 0
 RecordPromise a r = told r ≡ Area.told a
 
-abbrev pub NonePromise : ℕ → KnxAdditionalInfo → Type 0
-NonePromise n r = told r ≡ record { number = n; values = 0 ∷ 0 ∷ 0 ∷ 0 ∷ 0 ∷ []; start = 0; end = 0 }
+abbrev pub NonePromise : ℕ → ℕ → KnxAdditionalInfo → Type 0
+NonePromise n o r = told r ≡ record { number = n; values = 0 ∷ 0 ∷ 0 ∷ 0 ∷ 0 ∷ []; start = 0; end = 0; offset = o }

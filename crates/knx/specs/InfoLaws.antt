@@ -4,12 +4,13 @@ use mathlib.Core.Path.{_≡_, refl, sym, subst, _∙_}
 use mathlib.Core.List.{List, [], _∷_, _++_}
 use lib.ListN.{length, getD}
 use Rattle.wire.specs.Told.{Told, done, viewed, refused, Check}
-use Rattle.wire.specs.ToldLaws.{let-refuse, stays, was-accepted, was-refused, same, one-to-one}
+use Rattle.wire.specs.ToldLaws.{was-accepted, was-refused, same, one-to-one}
+use Rattle.wire.specs.PlaceLaws.{falls-still, located-fall}
 use Rattle.wire.specs.Coding.{check}
 use Rattle.wire.specs.Coding as Coding
 use Rattle.wire.specs.Writing.{Writes}
 use Rattle.wire.specs.WritingLaws as WritingLaws
-use Rattle.wire.specs.declared.refusals.Refusal.{Refusal}
+use Rattle.wire.specs.declared.refusals.Fault.{Fault}
 use Rattle.wire.specs.declared.refusals.Written.{Written}
 use Rattle.wire.specs.declared.refusals.Written.the-variants.{Refused}
 use Rattle.constants.specs.MessageCodes.{messageCodes, codeOf}
@@ -30,9 +31,11 @@ use Rattle.knx.specs.declared.info.KnxAdditionalInfo.{KnxAdditionalInfo}
 use Rattle.knx.specs.declared.info.KnxCount.{KnxCount}
 
 -- a frame that does not parse has no area
-pub no-area : (s : List ℕ) (e : Refusal) (t : Told) → Cemi.ParsePromise s (CEMIAnswer.Refused e) → t ≡ refused 0 e → t ≡ Cemi.infoBy02 s
+pub no-area : (s : List ℕ) (e : Fault) (t : Told) → Cemi.ParsePromise s (CEMIAnswer.Refused e) → t ≡ refused 0 e → t ≡ Cemi.infoWhere s
 no-area s e t p q =
-    q ∙ sym (let-refuse (Cemi.checks s ++ Cemi.infoCheck s ∷ []) (viewed 2 (2 + Cemi.infoLength s)) e (stays (Cemi.checks s) (Cemi.infoCheck s ∷ []) e (CemiLaws.fell s e p)))
+    q
+    ∙ sym (located-fall (Cemi.checks s ++ Cemi.infoCheck s ∷ []) (Cemi.offsets s ++ Cemi.infoOffset ∷ []) (viewed 2 (2 + Cemi.infoLength s)) e
+    (falls-still (Cemi.checks s) (Cemi.infoCheck s ∷ []) (Cemi.offsets s) (Cemi.infoOffset ∷ []) e refl (CemiLaws.fell s e p)))
 
 -- a message code of a number: the frame is built, or refused before it is looked at
 module _ (code : ℕ) (area rest b : List ℕ) where
@@ -44,20 +47,21 @@ module _ (code : ℕ) (area rest b : List ℕ) where
       WritingLaws.writes-behind (check messageCodes code ∷ []) (Cemi.buildChecks area (length rest) (length b)) (Cemi.layout code area rest) b w after known
       (subst (λ (c : ℕ). Writes (Cemi.buildChecks area (length rest) (length b)) (Cemi.layout c area rest) b w after) (sym same-code) built)
 
-  pub code-unknown : (e : Refusal) → MessageCodes.FromPromise code (CEMIMessageCodeAnswer.Refused e) → Writes (buildChecks code area (length rest) (length b)) (Cemi.layout code area rest) b (Refused e) b
+  pub code-unknown : (e : Fault) → MessageCodes.FromPromise code (CEMIMessageCodeAnswer.Refused e) → Writes (buildChecks code area (length rest) (length b)) (Cemi.layout code area rest) b (Refused (e .why)) b
   code-unknown e p =
-      WritingLaws.refuses-before (check messageCodes code ∷ []) (Cemi.buildChecks area (length rest) (length b)) (Cemi.layout code area rest) b e
+      WritingLaws.refuses-before (check messageCodes code ∷ []) (Cemi.buildChecks area (length rest) (length b)) (Cemi.layout code area rest) b (e .why)
       (was-refused (check messageCodes code ∷ []) (done (code ∷ [])) 1 e refl p)
 
 -- ---- no second answer
 
 pub area-one : (s : List ℕ) (r q : KnxPart) → AreaPromise s r → AreaPromise s q → r ≡ q
-area-one s r q a b = one-to-one toldPart (λ t. record { start = t .start; end = t .end; number = t .number }) (λ x. refl) r q (same a b)
+area-one s r q a b = one-to-one toldPart (λ t. record { start = t .start; end = t .end; offset = t .offset; number = t .number }) (λ x. refl) r q (same a b)
 
 recordFrom : Told → KnxAdditionalInfo
 recordFrom t = record {
   start = t .start;
   end = t .end;
+  offset = t .offset;
   timestamp = getD (t .values) 4 0;
   found = getD (t .values) 0 0;
   named = getD (t .values) 1 0;
@@ -77,7 +81,7 @@ pub nth-one : (s : List ℕ) (n : ℕ) (r q : KnxAdditionalInfo) → NthPromise 
 nth-one s n r q a b = told-one r q (same a b)
 
 pub count-one : (s : List ℕ) (r q : KnxCount) → CountPromise s r → CountPromise s q → r ≡ q
-count-one s r q a b = one-to-one toldCount (λ t. record { count = getD (t .values) 0 0; number = t .number }) (λ x. refl) r q (same a b)
+count-one s r q a b = one-to-one toldCount (λ t. record { count = getD (t .values) 0 0; offset = t .offset; number = t .number }) (λ x. refl) r q (same a b)
 
 pub append-one : (s : List ℕ) (code : ℕ) (d b : List ℕ) (r q : KnxWritten) (after later : List ℕ)
     → AppendPromise s code d b r after → AppendPromise s code d b q later → (r ≡ q) × (after ≡ later)

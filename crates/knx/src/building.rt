@@ -18,10 +18,11 @@ use tunnelling::TunnelingAck;
 use tunnelling::TunnelingRequest;
 use wire::Written;
 
-// How many bytes were written, and a number of 01.
+// How many bytes were written, and a number of 01. The offset is 0: a builder reads no datagram.
 #[repr(C)]
 pub struct KnxWritten {
     pub count: usize,
+    pub offset: usize,
     pub number: u8,
 }
 
@@ -219,9 +220,14 @@ pub(crate) fn written(answer: Written) -> KnxWritten
     ensures { λ r. ⌜ WrittenPromise answer r ⌝ }
 {
     match answer {
-        Written::Bytes(count) => KnxWritten { count, number: 0 },
+        Written::Bytes(count) => KnxWritten {
+            count,
+            offset: 0,
+            number: 0,
+        },
         Written::Refused(why) => KnxWritten {
             count: 0,
+            offset: 0,
             number: why.number(),
         },
     }

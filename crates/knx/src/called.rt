@@ -1,4 +1,5 @@
 // The calls on a table of eight tunnels, over the byte image that the host lends.
+ghost use Rattle.wire.specs.Told.{nowhere};
 ghost use Rattle.knx.specs.Called.{KeepPromise, EmptyPromise, RefusedPromise, OpenPromise, ClosePromise, TimeoutPromise, SendPromise, DatagramPromise, DatagramStandardPromise, DatagramInPromise};
 use crate::building;
 use crate::building::KnxWritten;
@@ -6,14 +7,16 @@ use tunnel_datagram::Heard;
 use tunnel_table::Called;
 use tunnel_table::Table;
 use tunnelling::Form;
+use wire::Fault;
 use wire::Refusal;
 
-// A number of 01 and, beside 0, what is said, the view and the count of bytes written to the output.
+// A number of 01 and, beside 0, what is said, the view and the count of bytes written to the output; else the offset of the field that decided.
 #[repr(C)]
 pub struct KnxCalled {
     pub start: usize,
     pub end: usize,
     pub written: usize,
+    pub offset: usize,
     pub said: u8,
     pub number: u8,
 }
@@ -94,8 +97,8 @@ fn table_datagram_in(form: Form, image: &mut [u8], bytes: &[u8], out: &mut [u8])
         return refused(Refusal::BufferTooSmall);
     }
     let heard = tunnel_datagram::hear_in(form, bytes);
-    if let Heard::Refused(why) = heard {
-        return refused(why);
+    if let Heard::Refused(fault) = heard {
+        return refused_at(fault);
     }
     keep(
         tunnel_image::unpack(image).heard_in(form, heard, out),
@@ -114,6 +117,7 @@ fn keep(called: Called, image: &mut [u8]) -> KnxCalled
         start: called.start,
         end: called.end,
         written: called.written,
+        offset: called.offset,
         said: said.number(),
         number: called.number,
     };
@@ -123,13 +127,22 @@ fn keep(called: Called, image: &mut [u8]) -> KnxCalled
     answer
 }
 
+// No field of a datagram decides that an image is too short.
 fn refused(why: Refusal) -> KnxCalled
-    ensures { λ r. ⌜ RefusedPromise why r ⌝ }
+    ensures { λ r. ⌜ RefusedPromise (nowhere why) r ⌝ }
 {
+    refused_at(Fault { why, at: 0 })
+}
+
+fn refused_at(fault: Fault) -> KnxCalled
+    ensures { λ r. ⌜ RefusedPromise fault r ⌝ }
+{
+    let why = fault.why;
     KnxCalled {
         start: 0,
         end: 0,
         written: 0,
+        offset: fault.at,
         said: 0,
         number: why.number(),
     }

@@ -8,13 +8,14 @@ use cemi::CEMIFrame;
 use ldata::Counting;
 use ldata::LDataAnswer;
 use ldata::LDataFields;
-use wire::Refusal;
+use wire::Fault;
 
-// A number of 01 and, beside 0, the fields of cEMI and L_Data, and where the data stands in the cEMI bytes.
+// A number of 01 and, beside 0, the fields of cEMI and L_Data, and where the data stands in the cEMI bytes; else the offset of the field that decided.
 #[repr(C)]
 pub struct KnxLData {
     pub start: usize,
     pub end: usize,
+    pub offset: usize,
     pub source: u16,
     pub destination: u16,
     pub apci_code: u16,
@@ -49,7 +50,7 @@ fn ldata_in(counting: Counting, data: &[u8]) -> KnxLData
 {
     match answer_in(counting, data) {
         LDataAnswer::Frame(fields) => read(counting, data, fields),
-        LDataAnswer::Refused(why) => refused(why),
+        LDataAnswer::Refused(fault) => refused(fault),
     }
 }
 
@@ -58,7 +59,7 @@ fn answer_in(counting: Counting, data: &[u8]) -> LDataAnswer
 {
     match CEMIFrame::parse(data) {
         CEMIAnswer::Frame(frame) => frame.as_ldata_in(counting, data),
-        CEMIAnswer::Refused(why) => LDataAnswer::Refused(why),
+        CEMIAnswer::Refused(fault) => LDataAnswer::Refused(fault),
     }
 }
 
@@ -79,6 +80,7 @@ fn read(counting: Counting, data: &[u8], fields: LDataFields) -> KnxLData
     KnxLData {
         start: base + ldata::data_start(is_data),
         end: base + counting.data_end(fields.npdu_length),
+        offset: 0,
         source: source.to_u16(),
         destination: fields.destination_raw,
         apci_code: service.apci_code,
@@ -142,12 +144,14 @@ fn control_code(counting: Counting, first: u8) -> u8
     }
 }
 
-fn refused(why: Refusal) -> KnxLData
-    ensures { λ r. ⌜ RefusedPromise why r ⌝ }
+fn refused(fault: Fault) -> KnxLData
+    ensures { λ r. ⌜ RefusedPromise fault r ⌝ }
 {
+    let why = fault.why;
     KnxLData {
         start: 0,
         end: 0,
+        offset: fault.at,
         source: 0,
         destination: 0,
         apci_code: 0,

@@ -3,19 +3,21 @@ ghost use Rattle.knx.specs.Channel.{StatusPromise, NoStatusPromise, Disc
 use connect::ConnectionStateAnswer;
 use connect::ConnectionStateResponse;
 use connect::DisconnectRequest;
-use wire::Refusal;
+use wire::Fault;
 
-// A number of 01 and, beside 0, a channel and its status.
+// A number of 01 and, beside 0, a channel and its status; else the offset of the field that decided.
 #[repr(C)]
 pub struct KnxStatus {
+    pub offset: usize,
     pub channel: u8,
     pub status: u8,
     pub number: u8,
 }
 
-// A number of 01 and, beside 0, a channel and the gateway's control endpoint.
+// A number of 01 and, beside 0, a channel and the gateway's control endpoint; else the offset of the field that decided.
 #[repr(C)]
 pub struct KnxDisconnectRequest {
+    pub offset: usize,
     pub channel: u8,
     pub structure_length: u8,
     pub host_protocol: u8,
@@ -47,6 +49,7 @@ pub extern "C" fn knx_disconnect_request_parse(body: &[u8]) -> KnxDisconnectRequ
     let endpoint = request.control_endpoint;
     let address = endpoint.ip_address;
     KnxDisconnectRequest {
+        offset: answer.offset,
         channel: request.channel_id,
         structure_length: endpoint.structure_length,
         host_protocol: endpoint.host_protocol,
@@ -62,18 +65,21 @@ fn status_in(body: &[u8]) -> KnxStatus
 {
     match ConnectionStateResponse::parse(body) {
         ConnectionStateAnswer::Response(response) => KnxStatus {
+            offset: 0,
             channel: response.channel_id,
             status: response.status,
             number: 0,
         },
-        ConnectionStateAnswer::Refused(why) => no_status(why),
+        ConnectionStateAnswer::Refused(fault) => no_status(fault),
     }
 }
 
-fn no_status(why: Refusal) -> KnxStatus
-    ensures { λ r. ⌜ NoStatusPromise why r ⌝ }
+fn no_status(fault: Fault) -> KnxStatus
+    ensures { λ r. ⌜ NoStatusPromise fault r ⌝ }
 {
+    let why = fault.why;
     KnxStatus {
+        offset: fault.at,
         channel: 0,
         status: 0,
         number: why.number(),

@@ -17,19 +17,21 @@ use constants::CEMIMessageCodeAnswer;
 use wire::View;
 use wire::Written;
 
-// A number of 01 and, beside 0, a part of the input.
+// A number of 01 and, beside 0, a part of the input; else the offset of the field that decided.
 #[repr(C)]
 pub struct KnxPart {
     pub start: usize,
     pub end: usize,
+    pub offset: usize,
     pub number: u8,
 }
 
-// A number of 01 and, beside 0 and where one was found, a record: where its data stands, its type, its timestamp.
+// A number of 01 and, beside 0 and where one was found, a record: where its data stands, its type, its timestamp; else the offset of the field that decided.
 #[repr(C)]
 pub struct KnxAdditionalInfo {
     pub start: usize,
     pub end: usize,
+    pub offset: usize,
     pub timestamp: u32,
     pub found: u8,
     pub named: u8,
@@ -38,10 +40,11 @@ pub struct KnxAdditionalInfo {
     pub number: u8,
 }
 
-// A number of 01 and, beside 0, how many there are.
+// A number of 01 and, beside 0, how many there are; else the offset of the field that decided.
 #[repr(C)]
 pub struct KnxCount {
     pub count: usize,
+    pub offset: usize,
     pub number: u8,
 }
 
@@ -51,7 +54,7 @@ pub extern "C" fn knx_cemi_additional_info(data: &[u8]) -> KnxPart
 {
     match CEMIFrame::parse(data) {
         CEMIAnswer::Frame(frame) => part(frame.additional_info(data)),
-        CEMIAnswer::Refused(why) => part(View::refused(why)),
+        CEMIAnswer::Refused(fault) => part(View::refused(fault)),
     }
 }
 
@@ -74,11 +77,19 @@ pub extern "C" fn knx_additional_info_count(area: &[u8]) -> KnxCount
     ensures { λ r. ⌜ KnxInfo.CountPromise (now (area .entry)) r ⌝ }
 {
     match additional_info::count(area) {
-        CountAnswer::Count(count) => KnxCount { count, number: 0 },
-        CountAnswer::Refused(why) => KnxCount {
-            count: 0,
-            number: why.number(),
+        CountAnswer::Count(count) => KnxCount {
+            count,
+            offset: 0,
+            number: 0,
         },
+        CountAnswer::Refused(fault) => {
+            let why = fault.why;
+            KnxCount {
+                count: 0,
+                offset: fault.at,
+                number: why.number(),
+            }
+        }
     }
 }
 
@@ -109,7 +120,10 @@ pub extern "C" fn knx_cemi_build(
             let frame = CEMIFrame { message_code };
             building::written(frame.build(additional_info, service_info, out))
         }
-        CEMIMessageCodeAnswer::Refused(why) => building::written(Written::Refused(why)),
+        CEMIMessageCodeAnswer::Refused(fault) => {
+            let why = fault.why;
+            building::written(Written::Refused(why))
+        }
     }
 }
 
@@ -119,6 +133,7 @@ fn part(view: View) -> KnxPart
     KnxPart {
         start: view.start,
         end: view.end,
+        offset: view.offset,
         number: view.number,
     }
 }
@@ -134,6 +149,7 @@ fn record(answer: AdditionalInfoAnswer) -> KnxAdditionalInfo
             KnxAdditionalInfo {
                 start: info.start,
                 end: info.end,
+                offset: 0,
                 timestamp: value(timestamp),
                 found: 1,
                 named: named(t),
@@ -142,17 +158,21 @@ fn record(answer: AdditionalInfoAnswer) -> KnxAdditionalInfo
                 number: 0,
             }
         }
-        AdditionalInfoAnswer::None => none(0),
-        AdditionalInfoAnswer::Refused(why) => none(why.number()),
+        AdditionalInfoAnswer::None => none(0, 0),
+        AdditionalInfoAnswer::Refused(fault) => {
+            let why = fault.why;
+            none(why.number(), fault.at)
+        }
     }
 }
 
-fn none(number: u8) -> KnxAdditionalInfo
-    ensures { λ r. ⌜ KnxInfo.NonePromise number r ⌝ }
+fn none(number: u8, offset: usize) -> KnxAdditionalInfo
+    ensures { λ r. ⌜ KnxInfo.NonePromise number offset r ⌝ }
 {
     KnxAdditionalInfo {
         start: 0,
         end: 0,
+        offset,
         timestamp: 0,
         found: 0,
         named: 0,

@@ -5,19 +5,21 @@ use connect::ConnectResponse;
 use connect::ConnectResponseAnswer;
 use hpai::Hpai;
 
-// A number of 01 and, beside 0, where the body stands, the service and the total length.
+// A number of 01 and, beside 0, where the body stands, the service and the total length; else the offset of the field that decided.
 #[repr(C)]
 pub struct KnxFrame {
     pub start: usize,
     pub end: usize,
+    pub offset: usize,
     pub service: u16,
     pub total: u16,
     pub number: u8,
 }
 
-// A number of 01 and, beside 0, the fields of an Hpai.
+// A number of 01 and, beside 0, the fields of an Hpai; else the offset of the field that decided.
 #[repr(C)]
 pub struct KnxHpai {
+    pub offset: usize,
     pub structure_length: u8,
     pub host_protocol: u8,
     pub address: [u8; 4],
@@ -25,9 +27,10 @@ pub struct KnxHpai {
     pub number: u8,
 }
 
-// A number of 01 and, beside 0, the fields of a connect response.
+// A number of 01 and, beside 0, the fields of a connect response; else the offset of the field that decided.
 #[repr(C)]
 pub struct KnxConnectResponse {
+    pub offset: usize,
     pub channel: u8,
     pub status: u8,
     pub structure_length: u8,
@@ -46,6 +49,7 @@ pub extern "C" fn knx_frame_parse(data: &[u8]) -> KnxFrame
     KnxFrame {
         start: body_start(judged.number),
         end: judged.total as usize,
+        offset: judged.offset,
         service: judged.service,
         total: judged.total,
         number: judged.number,
@@ -67,6 +71,7 @@ pub extern "C" fn knx_hpai_parse(data: &[u8]) -> KnxHpai
     let hpai = answer.hpai;
     let address = hpai.ip_address;
     KnxHpai {
+        offset: answer.offset,
         structure_length: hpai.structure_length,
         host_protocol: hpai.host_protocol,
         address,
@@ -107,6 +112,7 @@ fn response_as(answer: ConnectResponseAnswer) -> KnxConnectResponse
     let address = endpoint.ip_address;
     let crd = response.crd;
     KnxConnectResponse {
+        offset: answer.offset,
         channel: response.channel_id,
         status: response.status,
         structure_length: endpoint.structure_length,

@@ -22,16 +22,16 @@ hear-in-requires c κs = search needs
 enum-known-heard : tie.Need-enum-known-heard
 enum-known-heard c = search needs
 
-refused-requires-2 : tie.Need-refused-requires-2
-refused-requires-2 c κs = search needs
+refused-at-requires : tie.Need-refused-at-requires
+refused-at-requires c κs = search needs
 
 returns-2 : tie.Need-returns-2
 returns-2 c =
     let at-hear = c .before .before .before .before in
     let a = at-hear .before .before .before .before .before .args in
-    let why = c .before .before .heard .given in
-    let h = sym (heard-in-is (a .form) (a .bytes .now) (at-hear .hear-in .result) (at-hear .hear-in .ensures)) ∙ why .1 in
-    unheard-call (a .form) (a .image .now) (a .bytes .now) (a .out .now) (why .0 .0) _ (at-hear .before .if1 .left) h (c .refused2 .ensures)
+    let fault = c .before .before .heard .given in
+    let h = sym (heard-in-is (a .form) (a .bytes .now) (at-hear .hear-in .result) (at-hear .hear-in .ensures)) ∙ fault .1 in
+    unheard-call (a .form) (a .image .now) (a .bytes .now) (a .out .now) (fault .0 .0) _ (at-hear .before .if1 .left) h (c .refused-at .ensures)
 
 unpack-requires : tie.Need-unpack-requires
 unpack-requires c κs = search needs
@@ -66,7 +66,7 @@ table-datagram-in-spec =
     returns
     hear-in-requires
     enum-known-heard
-    refused-requires-2
+    refused-at-requires
     returns-2
     unpack-requires
     heard-in-requires

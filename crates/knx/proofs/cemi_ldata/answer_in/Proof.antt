@@ -16,8 +16,8 @@ enum-known-frame c = search needs
 as-ldata-in-requires : tie.Need-as-ldata-in-requires
 as-ldata-in-requires c κs = search needs
 
-enum-known-why : tie.Need-enum-known-why
-enum-known-why c = search needs
+enum-known-fault : tie.Need-enum-known-fault
+enum-known-fault c = search needs
 
 returns : tie.Need-returns
 returns c =
@@ -30,8 +30,8 @@ returns-2 : tie.Need-returns-2
 returns-2 c =
     let at-parse = c .before .before .before in
     let a = at-parse .before .before .args in
-    let why = c .before .why .given in
-    no-cemi (a .counting) (a .«data» .now) (why .0 .0) (carried Cemi.ParsePromise {a = a .«data» .now} refl (why .1) (at-parse .parse .ensures))
+    let fault = c .before .fault .given in
+    no-cemi (a .counting) (a .«data» .now) (fault .0 .0) (carried Cemi.ParsePromise {a = a .«data» .now} refl (fault .1) (at-parse .parse .ensures))
 
 pub answer-in-spec : {M : Type 1} → statement M
-answer-in-spec = tie.close (tie.spec parse-requires enum-known-frame as-ldata-in-requires enum-known-why returns returns-2)
+answer-in-spec = tie.close (tie.spec parse-requires enum-known-frame as-ldata-in-requires enum-known-fault returns returns-2)

@@ -20,8 +20,8 @@ read-requires c κs =
     let fields = c .before .fields .given in
     accepted (a .counting) (a .«data» .now) (fields .0 .0) (carried (AnswerInPromise (a .counting)) {a = a .«data» .now} refl (fields .1) (at-answer .answer-in .ensures))
 
-enum-known-why : tie.Need-enum-known-why
-enum-known-why c = search needs
+enum-known-fault : tie.Need-enum-known-fault
+enum-known-fault c = search needs
 
 refused-requires : tie.Need-refused-requires
 refused-requires c κs = search needs
@@ -37,8 +37,8 @@ returns-2 : tie.Need-returns-2
 returns-2 c =
     let at-answer = c .before .before .before .before in
     let a = at-answer .before .before .args in
-    let why = c .before .before .why .given in
-    no-ldata (a .counting) (a .«data» .now) (why .0 .0) (c .refused .result) (carried (AnswerInPromise (a .counting)) {a = a .«data» .now} refl (why .1) (at-answer .answer-in .ensures)) (c .refused .ensures)
+    let fault = c .before .before .fault .given in
+    no-ldata (a .counting) (a .«data» .now) (fault .0 .0) (c .refused .result) (carried (AnswerInPromise (a .counting)) {a = a .«data» .now} refl (fault .1) (at-answer .answer-in .ensures)) (c .refused .ensures)
 
 pub ldata-in-spec : {M : Type 1} → statement M
-ldata-in-spec = tie.close (tie.spec answer-in-requires enum-known-fields read-requires enum-known-why refused-requires returns returns-2)
+ldata-in-spec = tie.close (tie.spec answer-in-requires enum-known-fields read-requires enum-known-fault refused-requires returns returns-2)

@@ -10,7 +10,7 @@ number-requires : tie.Need-number-requires
 number-requires c κs = search needs
 
 returns : tie.Need-returns
-returns c = ap (λ (n : ℕ). record { number = n; values = 0 ∷ 0 ∷ []; start = 0; end = 0 }) (c .number .ensures)
+returns c = ap (λ (n : ℕ). record { number = n; values = 0 ∷ 0 ∷ []; start = 0; end = 0; offset = c .before .args .fault .at }) (c .number .ensures)
 
 pub no-status-spec : {M : Type 1} → statement M
 no-status-spec = tie.close (tie.spec number-requires returns)

@@ -11,8 +11,8 @@ parse-requires c κs = search needs
 enum-known-response : tie.Need-enum-known-response
 enum-known-response c = search needs
 
-enum-known-why : tie.Need-enum-known-why
-enum-known-why c = search needs
+enum-known-fault : tie.Need-enum-known-fault
+enum-known-fault c = search needs
 
 no-status-requires : tie.Need-no-status-requires
 no-status-requires c κs = search needs
@@ -21,7 +21,7 @@ returns : tie.Need-returns
 returns c = sym (ap toldState (c .before .response .given .1)) ∙ c .before .before .before .parse .ensures
 
 returns-2 : tie.Need-returns-2
-returns-2 c = c .no-status .ensures ∙ sym (ap toldState (c .before .before .why .given .1)) ∙ c .before .before .before .before .parse .ensures
+returns-2 c = c .no-status .ensures ∙ sym (ap toldState (c .before .before .fault .given .1)) ∙ c .before .before .before .before .parse .ensures
 
 pub status-in-spec : {M : Type 1} → statement M
 status-in-spec =
@@ -29,7 +29,7 @@ status-in-spec =
     (tie.spec
     parse-requires
     enum-known-response
-    enum-known-why
+    enum-known-fault
     no-status-requires
     returns
     returns-2)

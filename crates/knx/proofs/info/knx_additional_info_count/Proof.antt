@@ -13,8 +13,8 @@ count-requires c κs = search needs
 enum-known-count : tie.Need-enum-known-count
 enum-known-count c = search needs
 
-enum-known-why : tie.Need-enum-known-why
-enum-known-why c = search needs
+enum-known-fault : tie.Need-enum-known-fault
+enum-known-fault c = search needs
 
 number-requires : tie.Need-number-requires
 number-requires c κs = search needs
@@ -23,9 +23,9 @@ returns : tie.Need-returns
 returns c = sym (ap toldCount (c .before .count2 .given .1)) ∙ c .before .before .before .count .ensures
 
 returns-2 : tie.Need-returns-2
-returns-2 c = ap (λ (n : ℕ). record { number = n; values = 0 ∷ []; start = 0; end = 0 }) (c .number .ensures) ∙ sym (ap toldCount (c .before .before .why .given .1)) ∙ c .before .before .before .before .count .ensures
+returns-2 c = ap (λ (n : ℕ). record { number = n; values = 0 ∷ []; start = 0; end = 0; offset = c .before .before .fault .given .0 .0 .at }) (c .number .ensures) ∙ sym (ap toldCount (c .before .before .fault .given .1)) ∙ c .before .before .before .before .count .ensures
 
 pub knx-additional-info-count-spec : {M : Type 1} → statement M
 knx-additional-info-count-spec =
     tie.close
-    (tie.spec count-requires enum-known-count enum-known-why number-requires returns returns-2)
+    (tie.spec count-requires enum-known-count enum-known-fault number-requires returns returns-2)

@@ -19,8 +19,8 @@ additional-info-requires c κs = search needs
 part-requires : tie.Need-part-requires
 part-requires c κs = search needs
 
-enum-known-why : tie.Need-enum-known-why
-enum-known-why c = search needs
+enum-known-fault : tie.Need-enum-known-fault
+enum-known-fault c = search needs
 
 refused-requires : tie.Need-refused-requires
 refused-requires c κs = search needs
@@ -34,8 +34,8 @@ returns c = c .part .ensures ∙ c .before .additional-info .ensures
 returns-2 : tie.Need-returns-2
 returns-2 c =
     let s = c .before .before .before .before .before .before .before .args .«data» .now in
-    let why = c .before .before .before .why .given in
-    no-area s (why .0 .0) _ (carried ParsePromise {a = s} refl (why .1) (c .before .before .before .before .before .parse .ensures)) (c .part2 .ensures ∙ c .before .refused .ensures)
+    let fault = c .before .before .before .fault .given in
+    no-area s (fault .0 .0) _ (carried ParsePromise {a = s} refl (fault .1) (c .before .before .before .before .before .parse .ensures)) (c .part2 .ensures ∙ c .before .refused .ensures)
 
 pub knx-cemi-additional-info-spec : {M : Type 1} → statement M
 knx-cemi-additional-info-spec =
@@ -45,7 +45,7 @@ knx-cemi-additional-info-spec =
     enum-known-frame
     additional-info-requires
     part-requires
-    enum-known-why
+    enum-known-fault
     refused-requires
     part-requires-2
     returns

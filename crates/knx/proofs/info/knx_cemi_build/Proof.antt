@@ -20,8 +20,8 @@ build-requires c κs = search needs
 written-requires : tie.Need-written-requires
 written-requires c κs = search needs
 
-enum-known-why : tie.Need-enum-known-why
-enum-known-why c = search needs
+enum-known-fault : tie.Need-enum-known-fault
+enum-known-fault c = search needs
 
 written-requires-2 : tie.Need-written-requires-2
 written-requires-2 c κs = search needs
@@ -40,9 +40,9 @@ returns c =
 returns-2 : tie.Need-returns-2
 returns-2 c =
     let a = c .before .before .before .before .before .before .before .before .args in
-    let why = c .before .before .why .given in
-    let unknown = carried FromPromise {a = a .message-code} refl (why .1) (c .before .before .before .before .from-u8 .ensures) in
-    record { answer = Refused (why .0 .0); keeps = code-unknown (a .message-code) (a .additional-info .now) (a .service-info .now) (a .out .now) (why .0 .0) unknown; tells = c .written2 .ensures }
+    let fault = c .before .before .fault .given in
+    let unknown = carried FromPromise {a = a .message-code} refl (fault .1) (c .before .before .before .before .from-u8 .ensures) in
+    record { answer = Refused (fault .0 .0 .why); keeps = code-unknown (a .message-code) (a .additional-info .now) (a .service-info .now) (a .out .now) (fault .0 .0) unknown; tells = c .written2 .ensures }
 
 pub knx-cemi-build-spec : {M : Type 1} → statement M
 knx-cemi-build-spec =
@@ -52,7 +52,7 @@ knx-cemi-build-spec =
     enum-known-message-code
     build-requires
     written-requires
-    enum-known-why
+    enum-known-fault
     written-requires-2
     same-length
     returns

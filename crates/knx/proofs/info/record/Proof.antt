@@ -43,7 +43,7 @@ returns-2 : tie.Need-returns-2
 returns-2 c = rw (c .before .enum-told .given .1) (c .none .ensures)
 
 returns-3 : tie.Need-returns-3
-returns-3 c = rw (c .before .before .before .answer2 .given .1) (c .none2 .ensures ∙ ap (λ (n : ℕ). record { number = n; values = 0 ∷ 0 ∷ 0 ∷ 0 ∷ 0 ∷ []; start = 0; end = 0 }) (c .before .number .ensures))
+returns-3 c = rw (c .before .before .before .answer2 .given .1) (c .none2 .ensures ∙ ap (λ (n : ℕ). record { number = n; values = 0 ∷ 0 ∷ 0 ∷ 0 ∷ 0 ∷ []; start = 0; end = 0; offset = c .before .before .before .answer2 .given .0 .0 .at }) (c .before .number .ensures))
 
 pub record-spec : {M : Type 1} → statement M
 record-spec =

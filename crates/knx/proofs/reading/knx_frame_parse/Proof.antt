@@ -20,7 +20,7 @@ returns : tie.Need-returns
 returns c =
     let j = c .before .before .judge in
     let r = j .result in
-    ap (λ (start : ℕ). record { number = r .number; values = r .service ∷ r .total ∷ []; start = start; end = r .total }) (c .before .body-start .ensures)
+    ap (λ (start : ℕ). record { number = r .number; values = r .service ∷ r .total ∷ []; start = start; end = r .total; offset = r .offset }) (c .before .body-start .ensures)
     ∙ judged-frame (c .before .before .before .before .args .«data» .now) r (j .ensures)
 
 pub knx-frame-parse-spec : {M : Type 1} → statement M
