@@ -13,7 +13,7 @@ use Rattle.wire.specs.ToldLaws.{same}
 use Rattle.wire.specs.Layout.{copied}
 use Rattle.digits.specs.Digits.{decimal}
 use Rattle.replay.specs.Telling.{remainderFrom}
-use Rattle.replay.specs.Lines.{Sheet, sheet, laid, all, pieces, PiecePromise, values, shown, pattern, touchedIn, touched, bytePieces, buffer, lineOf, LinePromise}
+use Rattle.replay.specs.Lines.{Sheet, sheet, laid, all, pieces, PiecePromise, shown, values, offsets, pattern, touchedIn, touched, bytePieces, buffer, ending, lineOf, LinePromise}
 use Rattle.replay.specs.declared.telling.Told.{Told}
 use Rattle.replay.specs.Records.{patternFrom, FillPromise, EndedPromise, NextPromise}
 use Rattle.replay.specs.declared.records.Record.{Record}
@@ -50,14 +50,14 @@ pub pieces-done : (f : ℕ → List (List ℕ)) (n i : ℕ) (s : Sheet) → n �
 unfolding pieces
 pieces-done f n i s h = let z : n - i ≡ 0 = omega arith in ap (λ (k : ℕ). all s (pieces f k i)) z
 
-pub shown-most : (count : ℕ) → shown count ≤ 16
-shown-most count = go (ltb count 16) refl
+pub shown-most : (count most : ℕ) → shown count most ≤ most
+shown-most count most = go (ltb count most) refl
   where
-    go : (b : Bool) → ltb count 16 ≡ b → cond b count 16 ≤ 16
-    go true e = omega (arith, ltb-true count 16 e)
+    go : (b : Bool) → ltb count most ≡ b → cond b count most ≤ most
+    go true e = omega (arith, ltb-true count most e)
     go false e = omega arith
 
--- what is laid of a buffer, and of a line
+-- what is laid of a buffer, of a line's end, and of a line
 pub buffered : (buf : List ℕ) (k : ℕ) (s a b c d : Sheet) → k ≡ touched buf → a ≡ laid s (32 ∷ 124 ∷ 32 ∷ []) → b ≡ all a (pieces (bytePieces buf) k 0)
     → c ≡ laid b (43 ∷ []) → d ≡ laid c (decimal (length buf - k)) → d ≡ all s (buffer buf)
 buffered buf k s a b c d e p q r t =
@@ -66,13 +66,17 @@ buffered buf k s a b c d e p q r t =
     t ∙ ap (λ (m : ℕ). laid c (decimal (length buf - m))) e ∙ ap (λ (u : Sheet). laid u (decimal (length buf - touched buf))) (r ∙ ap (λ (u : Sheet). laid u (43 ∷ [])) bytes)
     ∙ sym (all-behind (laid s (32 ∷ 124 ∷ 32 ∷ [])) (pieces (bytePieces buf) (touched buf) 0) ((43 ∷ []) ∷ decimal (length buf - touched buf) ∷ []))
 
+pub ended : (t : Told) (s a b : Sheet) → a ≡ all s (offsets t) → b ≡ laid a (10 ∷ []) → b ≡ all s (ending t)
+ended t s a b p q = q ∙ ap (λ (u : Sheet). laid u (10 ∷ [])) p ∙ sym (all-behind s (offsets t) ((10 ∷ []) ∷ []))
+
 pub lined : (t : Told) (buf : List ℕ) (s a b c d : Sheet) → a ≡ laid s (decimal (t .number)) → b ≡ all a (values t) → c ≡ all b (cond (t .lends) (buffer buf) [])
-    → d ≡ laid c (10 ∷ []) → d ≡ all s (lineOf t buf)
+    → d ≡ all c (ending t) → d ≡ all s (lineOf t buf)
 lined t buf s a b c d p q r z =
     let shown-buffer : List (List ℕ) = cond (t .lends) (buffer buf) [] in
-    let front : b ≡ all (laid s (decimal (t .number))) (values t) = q ∙ ap (λ (u : Sheet). all u (values t)) p in
-    z ∙ ap (λ (u : Sheet). laid u (10 ∷ [])) (r ∙ ap (λ (u : Sheet). all u shown-buffer) front)
-    ∙ sym (all-behind (laid s (decimal (t .number))) (values t ++ shown-buffer) ((10 ∷ []) ∷ []) ∙ ap (λ (u : Sheet). laid u (10 ∷ [])) (all-behind (laid s (decimal (t .number))) (values t) shown-buffer))
+    let first : Sheet = laid s (decimal (t .number)) in
+    let front : b ≡ all first (values t) = q ∙ ap (λ (u : Sheet). all u (values t)) p in
+    z ∙ ap (λ (u : Sheet). all u (ending t)) (r ∙ ap (λ (u : Sheet). all u shown-buffer) front)
+    ∙ sym (all-behind first (values t ++ shown-buffer) (ending t) ∙ ap (λ (u : Sheet). all u (ending t)) (all-behind first (values t) shown-buffer))
 
 -- ---- the lent buffer
 

@@ -1,4 +1,4 @@
--- "A line: the number of document 01, then the call's values, all in decimal", and the lent buffer as far as it was touched, in hex. Assumes nothing.
+-- "A line: the number of document 01, then the call's values, all in decimal", the lent buffer as far as it was touched, in hex, and the offsets of the refusals. Assumes nothing.
 use Prim.Native.Nat.{ℕ, zero, suc, _+_, _-_, _/_, _%_}
 use mathlib.Core.Path.{_≡_}
 use mathlib.Core.Bool.{cond}
@@ -38,20 +38,29 @@ unfoldable pub pieces : (ℕ → List (List ℕ)) → ℕ → ℕ → List (List
 pieces f zero i = []
 pieces f (suc k) i = f i ++ pieces f k (suc i)
 
--- ---- the values
+-- ---- the values, and the offsets
 
-abbrev pub valuePieces : List ℕ → ℕ → List (List ℕ)
-valuePieces vs i = (32 ∷ []) ∷ decimal (getD vs i 0) ∷ []
+-- a mark, and a number behind it
+abbrev pub numberPieces : List ℕ → List ℕ → ℕ → List (List ℕ)
+numberPieces mark ns i = mark ∷ decimal (getD ns i 0) ∷ []
 
--- there are sixteen at most
-abbrev pub shown : ℕ → ℕ
-shown count = cond (ltb count 16) count 16
+-- no more than there are
+abbrev pub shown : ℕ → ℕ → ℕ
+shown count most = cond (ltb count most) count most
 
-abbrev pub ShownPromise : ℕ → ℕ → Type 0
-ShownPromise count r = r ≡ shown count
+abbrev pub ShownPromise : ℕ → ℕ → ℕ → Type 0
+ShownPromise count most r = r ≡ shown count most
 
+abbrev pub numbers : List ℕ → List ℕ → ℕ → List (List ℕ)
+numbers mark ns count = pieces (numberPieces mark ns) (shown count (length ns)) 0
+
+-- " 4 21" for 4 and 21
 abbrev pub values : Told → List (List ℕ)
-values t = pieces (valuePieces (t .values)) (shown (t .count)) 0
+values t = numbers (32 ∷ []) (t .values) (t .count)
+
+-- " @5 @9" for refusals at 5 and 9
+abbrev pub offsets : Told → List (List ℕ)
+offsets t = numbers (32 ∷ 64 ∷ []) (t .offsets) (t .refusals)
 
 -- ---- the lent buffer
 
@@ -85,8 +94,13 @@ buffer s = (32 ∷ 124 ∷ 32 ∷ []) ∷ pieces (bytePieces s) (touched s) 0 ++
 
 -- ---- the line
 
+-- a line feed behind the offsets
+abbrev pub ending : Told → List (List ℕ)
+ending t = offsets t ++ (10 ∷ []) ∷ []
+
+-- "1 0 | +8 @0" of a builder that refused with 1 and left its buffer of 8 bytes untouched
 abbrev pub lineOf : Told → List ℕ → List (List ℕ)
-lineOf t s = decimal (t .number) ∷ values t ++ cond (t .lends) (buffer s) [] ++ (10 ∷ []) ∷ []
+lineOf t s = decimal (t .number) ∷ values t ++ cond (t .lends) (buffer s) [] ++ ending t
 
 abbrev pub LinePromise : Told → List ℕ → List ℕ → ℕ → List ℕ → Type 0
 LinePromise t s out r after = PiecesPromise (lineOf t s) out 0 r after

@@ -10,6 +10,7 @@ pub use records::number24;
 pub use telling::Told;
 pub use telling::few;
 pub use telling::flag;
+pub use telling::located;
 pub use telling::moved;
 pub use telling::refused;
 pub use telling::remainder;

@@ -10,30 +10,37 @@ pub fn line(t: Told, buf: &[u8], out: &mut [u8]) -> usize
     let b = values(out, a, t);
     if t.lends {
         let c = buffer(out, b, buf);
-        return text(out, c, b"\n");
+        return ending(out, c, t);
     }
-    text(out, b, b"\n")
+    ending(out, b, t)
 }
 
 fn values(out: &mut [u8], at: usize, t: Told) -> usize
     ensures { λ r. ⌜ ReplayLines.PiecesPromise (ReplayLines.values t) (now (out .entry)) at r (now (out .exit)) ⌝ }
 {
     let vs = t.values;
-    let n = shown(t.count);
+    numbers(out, at, b" ", &vs, t.count)
+}
+
+// The first `count` of the numbers, a mark before each.
+fn numbers(out: &mut [u8], at: usize, mark: &[u8], ns: &[usize], count: usize) -> usize
+    ensures { λ r. ⌜ ReplayLines.PiecesPromise (ReplayLines.numbers (now (mark .entry)) (now (ns .entry)) count) (now (out .entry)) at r (now (out .exit)) ⌝ }
+{
+    let n = shown(count, ns.len());
     let mut to = at;
     let mut i: usize = 0;
     while i < n {
-        to = text(out, to, b" ");
-        to = decimal(out, to, vs[i] as u64);
+        to = text(out, to, mark);
+        to = decimal(out, to, ns[i] as u64);
         i += 1;
     }
     to
 }
 
-fn shown(count: usize) -> usize
-    ensures { λ r. ⌜ ReplayLines.ShownPromise count r ⌝ }
+fn shown(count: usize, most: usize) -> usize
+    ensures { λ r. ⌜ ReplayLines.ShownPromise count most r ⌝ }
 {
-    if count < 16 { count } else { 16 }
+    if count < most { count } else { most }
 }
 
 fn buffer(out: &mut [u8], at: usize, buf: &[u8]) -> usize
@@ -44,6 +51,15 @@ fn buffer(out: &mut [u8], at: usize, buf: &[u8]) -> usize
     let b = bytes(out, a, buf, k);
     let c = text(out, b, b"+");
     decimal(out, c, (buf.len() - k) as u64)
+}
+
+// The offsets of the refusals, which stand behind all else.
+fn ending(out: &mut [u8], at: usize, t: Told) -> usize
+    ensures { λ r. ⌜ ReplayLines.PiecesPromise (ReplayLines.ending t) (now (out .entry)) at r (now (out .exit)) ⌝ }
+{
+    let os = t.offsets;
+    let to = numbers(out, at, b" @", &os, t.refusals);
+    text(out, to, b"\n")
 }
 
 fn bytes(out: &mut [u8], at: usize, buf: &[u8], k: usize) -> usize

@@ -20,42 +20,36 @@ values-requires c κs = search needs
 buffer-requires : tie.Need-buffer-requires
 buffer-requires c κs = search needs
 
-slice-aggregate-text : tie.Need-slice-aggregate-text
-slice-aggregate-text c = search needs
-
-text-requires : tie.Need-text-requires
-text-requires c κs = search needs
+ending-requires : tie.Need-ending-requires
+ending-requires c κs = search needs
 
 same-length : tie.Need-same-length
 same-length c = search needs
 
 returns : tie.Need-returns
 returns c =
-    let a = c .before .before .before .before .before .before .before .before .before .before .before .before .before .before .before .before .before .before .before .before .before .args in
-    let one = c .before .before .before .before .before .before .before .before .before .before .before .before .before .before .before .before .decimal in
-    let two = c .before .before .before .before .before .before .before .before .before .before .before .before .values in
-    let three = c .before .before .before .before .before .before .before .buffer in
-    let shown = ap (λ (b : Bool). all (sheet (two .last .0) (two .result)) (cond b (buffer (a .buf .now)) [])) (sym (c .before .before .before .before .before .before .before .before .before .if1 .taken)) in
+    let a = c .before .before .before .before .before .before .before .before .before .before .before .before .before .before .before .before .before .before .before .before .args in
+    let one = c .before .before .before .before .before .before .before .before .before .before .before .before .before .before .before .decimal in
+    let two = c .before .before .before .before .before .before .before .before .before .before .before .values in
+    let three = c .before .before .before .before .before .before .buffer in
+    let shown = ap (λ (b : Bool). all (sheet (two .last .0) (two .result)) (cond b (buffer (a .buf .now)) [])) (sym (c .before .before .before .before .before .before .before .before .if1 .taken)) in
     lined (a .t) (a .buf .now) (sheet (a .out .now) 0) (sheet (one .last .0) (one .result)) (sheet (two .last .0) (two .result)) (sheet (three .last .0) (three .result)) _
-    (one .ensures) (two .ensures) (three .ensures ∙ shown) (c .before .before .text .ensures)
+    (one .ensures) (two .ensures) (three .ensures ∙ shown) (c .before .before .ending .ensures)
 
-slice-aggregate-text-2 : tie.Need-slice-aggregate-text-2
-slice-aggregate-text-2 c = search needs
-
-text-requires-2 : tie.Need-text-requires-2
-text-requires-2 c κs = search needs
+ending-requires-2 : tie.Need-ending-requires-2
+ending-requires-2 c κs = search needs
 
 same-length-2 : tie.Need-same-length-2
 same-length-2 c = search needs
 
 returns-2 : tie.Need-returns-2
 returns-2 c =
-    let a = c .before .before .before .before .before .before .before .before .before .before .before .before .before .before .before .before .before .args in
-    let one = c .before .before .before .before .before .before .before .before .before .before .before .before .decimal in
-    let two = c .before .before .before .before .before .before .before .before .values in
-    let shown = ap (λ (b : Bool). all (sheet (two .last .0) (two .result)) (cond b (buffer (a .buf .now)) [])) (sym (c .before .before .before .before .before .if1 .left)) in
+    let a = c .before .before .before .before .before .before .before .before .before .before .before .before .before .before .before .before .args in
+    let one = c .before .before .before .before .before .before .before .before .before .before .before .decimal in
+    let two = c .before .before .before .before .before .before .before .values in
+    let shown = ap (λ (b : Bool). all (sheet (two .last .0) (two .result)) (cond b (buffer (a .buf .now)) [])) (sym (c .before .before .before .before .if1 .left)) in
     lined (a .t) (a .buf .now) (sheet (a .out .now) 0) (sheet (one .last .0) (one .result)) (sheet (two .last .0) (two .result)) (sheet (two .last .0) (two .result)) _
-    (one .ensures) (two .ensures) shown (c .before .before .text2 .ensures)
+    (one .ensures) (two .ensures) shown (c .before .before .ending2 .ensures)
 
 pub line-spec : {M : Type 1} → statement M
 line-spec =
@@ -65,11 +59,9 @@ line-spec =
     decimal-requires
     values-requires
     buffer-requires
-    slice-aggregate-text
-    text-requires
+    ending-requires
     same-length
     returns
-    slice-aggregate-text-2
-    text-requires-2
+    ending-requires-2
     same-length-2
     returns-2)
