@@ -9,7 +9,7 @@ use lib.Seq.{drop-drop}
 use lib.Dec.{ltb}
 use borrow.Author.Tests.{le-leb, lt-leb, le-ltb, lt-ltb, ltb-true, ltb-false}
 use Rattle.wire.specs.Clash.{never}
-use Rattle.wire.specs.Told.{Told, done, refused, Check, _⇒_, verdict, judged, lent}
+use Rattle.wire.specs.Told.{Told, done, refused, nowhere, Check, _⇒_, verdict, judged, lent}
 use Rattle.wire.specs.ToldLaws.{same, same-test, holds, let-through, was-accepted, was-refused}
 use Rattle.wire.specs.Parts.{partOf}
 use Rattle.wire.specs.Layout.{wordAt, copied}
@@ -22,7 +22,7 @@ use Rattle.wire.specs.declared.refusals.Verdict.the-variants.{Accept, Refuse}
 use Rattle.wire.specs.declared.refusals.Written.{Written}
 use Rattle.wire.specs.declared.refusals.Written.the-variants.{Bytes, Refused}
 use Rattle.kip.specs.Capture.{whole, firstIn, NextPromise}
-use Rattle.frame.specs.Judging.{judgeBy01, JudgePromise}
+use Rattle.frame.specs.Judging.{judgeBy01, judgeWhere, JudgePromise}
 use Rattle.inspection.specs.Lines.{lineTold, lineOf}
 use Rattle.kip.specs.Stepping.{Named, names}
 use Rattle.inspection.specs.Scanning.{Scan, most, lineAt, stopped, scanOf, PutLinePromise, ScanPromise}
@@ -94,7 +94,7 @@ to-the-end out after at h =
     ∙ ap (λ (l : List ℕ). take at out ++ l) (append-nil after)
 
 pub no-place : (w out : List ℕ) (at : ℕ) → length out < at
-    → (refused 1 BufferTooSmall ≡ judged (ltb (length out) (at + length w) ⇒ BufferTooSmall ∷ []) (done (length w ∷ []))) × (out ≡ copied w out at)
+    → (refused 1 (nowhere BufferTooSmall) ≡ judged (ltb (length out) (at + length w) ⇒ BufferTooSmall ∷ []) (done (length w ∷ []))) × (out ≡ copied w out at)
 no-place w out at h =
     (simp (lt-ltb (length out) (at + length w) (omega arith)), simp (lt-leb (at + length w) (length out) (omega arith)))
 
@@ -123,7 +123,7 @@ was-full w out at e p = go (ltb (length out) (at + length w)) refl
     go : (b : Bool) → ltb (length out) (at + length w) ≡ b → length out < at + length w
     go true f = ltb-true (length out) (at + length w) f
     go false f =
-        let q : Refuse e ≡ Accept = sym (was-refused cs (done (length w ∷ [])) 1 e refl p) ∙ ap (λ (b : Bool). verdict (b ⇒ BufferTooSmall ∷ [])) f in
+        let q : Refuse e ≡ Accept = sym (was-refused cs (done (length w ∷ [])) 1 (nowhere e) refl p) ∙ ap (λ (b : Bool). verdict (b ⇒ BufferTooSmall ∷ [])) f in
         never cc
 
 pub turn-short : (k : ℕ) (s : List ℕ) (at used n : ℕ) (out : List ℕ) → NextPromise s at Next.Short → scanOf k s at used n out ≡ stopped at used n out Short
@@ -169,13 +169,13 @@ module _ (t : Turn) where
       go true e q = cc
       go false e q = never cc
 
-  -- the line that is put is the record's
+  -- the line that is put is the record's, in which no offset is told
   abbrev line : List ℕ
   line = lineOf (t .next) (t .told-of)
 
   the-line : line ≡ lineAt (t .input) (t .at) (t .n)
   the-line =
-      ap (lineTold (t .next)) (t .told-so ∙ ap judgeBy01 (there .datagram))
+      ap (lineTold (t .next)) (t .told-so ∙ ap judgeWhere (there .datagram))
       ∙ ap (λ (m : ℕ). lineTold m (judgeBy01 (firstIn (drop (t .at) (t .input))))) (t .counted)
 
   pub turn-full : (e : Refusal) → t .answer ≡ Refused e → scanOf (t .turns) (t .input) (t .at) (t .used) (t .n) (t .out) ≡ stopped (t .at) (t .used) (t .n) (t .after) Full
