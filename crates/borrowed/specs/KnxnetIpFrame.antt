@@ -27,7 +27,7 @@ ParsePromise s r = BorrowedPromise s (now (r .«data»)) × Frame.ParsePromise s
 
 -- where the body stands in the bytes that a record borrows: its header's checks are repeated over them; of a refused one the refusal
 abbrev pub viewOf : FrameAnswer → List ℕ → Told
-viewOf (Frame f) s = Frame.bodyBy01 f s
+viewOf (Frame f) s = Frame.foundIn f (length s) (Frame.bodyBy01 f s)
 viewOf (Refused e) s = refused 0 e
 
 abbrev pub BodyViewPromise : List ℕ → FrameAnswer → View → Type 0

@@ -11,7 +11,7 @@ use Rattle.wire.specs.Parts.{shown}
 use Rattle.wire.specs.Parts as Parts
 use Rattle.wire.specs.Refusing.{Refusing, refused-zeros, judged-refusing}
 use Rattle.wire.specs.declared.parts.View.{View}
-use Rattle.wire.specs.declared.refusals.Refusal.{Refusal}
+use Rattle.wire.specs.declared.refusals.Fault.{Fault}
 use Rattle.header.specs.Header.{fields, totalIn}
 use Rattle.frame.specs.Frame as Frame
 use Rattle.frame.specs.FrameLaws as FrameLaws
@@ -33,21 +33,21 @@ module _ (s : List ℕ) where
       let same = let-through cs told (Frame.told (Frame f)) refl p in
       ap (bodyOf (Frame f)) (h ∙ sym (borrowed-all cs told (Frame.told (Frame f)) s refl p))
       ∙ ap (λ (u : Told). shown s (judged (Frame.checks (length s) (u .values)) (viewed 6 (totalIn (u .values))))) same
-  body-of (Refused e) borrowed h p = empty-part borrowed ∙ sym (ap (shown s) (let-refuse cs (viewed 6 (totalIn (get fields 0 s))) e (was-refused cs told 4 e refl p)) ∙ empty-part s)
+  body-of (Refused e) borrowed h p = empty-part borrowed ∙ sym (ap (shown s) (let-refuse cs (viewed 6 (totalIn (get fields 0 s))) (e .why) (was-refused cs told 4 e refl p)) ∙ empty-part s)
 
 pub body-in : (s : List ℕ) (f : KnxnetIpFrame) (r : List ℕ) → ParsePromise s f → BodyPromise f r → BodyInPromise s r
 body-in s f r p q = q ∙ body-of s (f .answer) (now (f .«data»)) (p .0) (p .1)
 
 -- ---- refused
 
-pub borrows-none : (s : List ℕ) (f : KnxnetIpFrame) (e : Refusal) → ParsePromise s f → f .answer ≡ Refused e → now (f .«data») ≡ []
+pub borrows-none : (s : List ℕ) (f : KnxnetIpFrame) (e : Fault) → ParsePromise s f → f .answer ≡ Refused e → now (f .«data») ≡ []
 borrows-none s f e p q = p .0 ∙ sym (borrowed-none (cs s) (told s) 4 e s refl (sym (ap Frame.told q) ∙ p .1))
 
-pub body-none : (f : KnxnetIpFrame) (e : Refusal) (r : List ℕ) → f .answer ≡ Refused e → BodyPromise f r → r ≡ []
+pub body-none : (f : KnxnetIpFrame) (e : Fault) (r : List ℕ) → f .answer ≡ Refused e → BodyPromise f r → r ≡ []
 body-none f e r q p = p ∙ ap (λ (a : FrameAnswer). bodyOf a (now (f .«data»))) q ∙ empty-part (now (f .«data»))
 
 -- the view of a refused record tells that refusal
-pub view-none : (s : List ℕ) (a : FrameAnswer) (e : Refusal) (r : View) → a ≡ Refused e → BodyViewPromise s a r → Parts.told r ≡ refused 0 e
+pub view-none : (s : List ℕ) (a : FrameAnswer) (e : Fault) (r : View) → a ≡ Refused e → BodyViewPromise s a r → Parts.told r ≡ refused 0 e
 view-none s a e r q p = p ∙ ap (λ (b : FrameAnswer). viewOf b s) q
 
 -- a view that is refused tells its number and no more

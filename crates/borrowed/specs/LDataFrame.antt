@@ -5,6 +5,7 @@ use mathlib.Core.List.{List}
 use lib.ListN.{length, drop}
 use denote.Ref.{now}
 use Rattle.wire.specs.Told.{Told, refused, viewed, Check, judged}
+use Rattle.wire.specs.Places.{located}
 use Rattle.wire.specs.Layout.{get}
 use Rattle.wire.specs.Parts.{shown}
 use Rattle.wire.specs.Parts as Parts
@@ -31,12 +32,16 @@ borrowedChecks C f n = drop 1 (LData.recordChecks C f (startOf (isData (f .tpci)
 abbrev pub borrowedBy01 : Count → LDataFields → List ℕ → Told
 borrowedBy01 C f s = judged (borrowedChecks C f (length s)) (viewed 0 (C .endOf (f .«npdu_length») - startOf (isData (f .tpci))))
 
+-- and where: at L, whose offset is that of the frame
+abbrev pub borrowedWhere : Count → LDataFields → List ℕ → Told
+borrowedWhere C f s = located (borrowedChecks C f (length s)) LData.lengthOffsets (borrowedBy01 C f s)
+
 abbrev pub BorrowedViewPromise : Counting → List ℕ → LDataFields → View → Type 0
-BorrowedViewPromise c s f r = Parts.told r ≡ borrowedBy01 (countBy c) f s
+BorrowedViewPromise c s f r = Parts.told r ≡ borrowedWhere (countBy c) f s
 
 -- where the data stands in the bytes that a record borrows; of a refused one the refusal
 abbrev pub viewIn : Count → LDataAnswer → List ℕ → Told
-viewIn C (Frame f) s = borrowedBy01 C f s
+viewIn C (Frame f) s = borrowedWhere C f s
 viewIn C (Refused e) s = refused 0 e
 
 -- and the part there

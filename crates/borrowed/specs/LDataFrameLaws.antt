@@ -8,8 +8,10 @@ use lib.ListN.{length, getD, take, drop, length-drop}
 use lib.Seq.{take-all, length-take-le}
 use borrow.Author.Tests.{lt-ltb, le-ltb}
 use denote.Ref.{now}
-use Rattle.wire.specs.Told.{done, refused, viewed, verdict, judged}
+use Rattle.wire.specs.Told.{done, refused, viewed, judged}
 use Rattle.wire.specs.ToldLaws.{same, let-pass, let-refuse, was-accepted, was-refused, is-true}
+use Rattle.wire.specs.Places.{standing}
+use Rattle.wire.specs.PlaceLaws.{stands-accepted}
 use Rattle.wire.specs.Layout.{get}
 use Rattle.wire.specs.Parts.{shown}
 use Rattle.wire.specs.Parts as Parts
@@ -17,9 +19,10 @@ use Rattle.wire.specs.PartLaws.{part-is}
 use Rattle.wire.specs.Refusing.{Refusing, refused-zeros, judged-refusing}
 use Rattle.wire.specs.declared.parts.View.{View}
 use Rattle.pci.specs.Transport.{isData}
-use Rattle.wire.specs.declared.refusals.Refusal.{Refusal}
+use Rattle.wire.specs.declared.refusals.Fault.{Fault}
 use Rattle.wire.specs.declared.refusals.Refusal.the-variants.{InvalidFrame}
-use Rattle.wire.specs.declared.refusals.Verdict.the-variants.{Accept, Refuse}
+use Rattle.wire.specs.declared.refusals.Standing.{Standing}
+use Rattle.wire.specs.declared.refusals.Standing.the-variants.{Stands, Falls}
 use Rattle.ldata.specs.Count.{Count, startOf, countBy}
 use Rattle.ldata.specs.CountLaws.{lawful}
 use Rattle.ldata.specs.LData.{fields, lengthIn, tpciIn, dataByte}
@@ -37,10 +40,10 @@ pub fields-data : (c : Counting) (s : List ℕ) (f : LDataFields) → LData.Pars
 fields-data c s f p = ap (shown s) (LDataLaws.data-read (countBy c) s f p)
 
 -- a refused frame has none
-pub refused-data : (c : Counting) (s : List ℕ) (e : Refusal) → LData.ParseInPromise c s (Refused e) → dataInCount (countBy c) s ≡ []
+pub refused-data : (c : Counting) (s : List ℕ) (e : Fault) → LData.ParseInPromise c s (Refused e) → dataInCount (countBy c) s ≡ []
 refused-data c s e p =
     let C = countBy c in
-    ap (shown s) (let-refuse (LData.byteChecks C s) (viewed (startOf (dataByte (tpciIn (get fields 0 s)))) (C .endOf (lengthIn (get fields 0 s)))) e (was-refused (LData.byteChecks C s) (done (LData.valuesIn C s)) 9 e refl p))
+    ap (shown s) (let-refuse (LData.byteChecks C s) (viewed (startOf (dataByte (tpciIn (get fields 0 s)))) (C .endOf (lengthIn (get fields 0 s)))) (e .why) (was-refused (LData.byteChecks C s) (done (LData.valuesIn C s)) 9 e refl p))
     ∙ empty-part s
 
 -- ---- the checks over what is borrowed, by the numbers that they compare
@@ -49,14 +52,21 @@ pub start-most : (d : Bool) → startOf d ≤ 9
 start-most true = omega arith
 start-most false = omega arith
 
+-- refused at L
+abbrev pub atLength : Fault
+atLength = record { why = InvalidFrame; at = 6 }
+
 module _ (C : Count) (d : Bool) (l n : ℕ) where
-  pub borrowed-short : n < C .endOf l → verdict (drop 1 (LData.checks C n d l)) ≡ Refuse InvalidFrame
+  abbrev said : Standing
+  said = standing (drop 1 (LData.checks C n d l)) LData.lengthOffsets
+
+  pub borrowed-short : n < C .endOf l → said ≡ Falls atLength
   borrowed-short h = LDataLaws.last-two C n d l ∙ simp (lt-ltb n (C .endOf l) h)
 
-  pub borrowed-barred : C .endOf l ≤ n → C .allowed d l ≡ false → verdict (drop 1 (LData.checks C n d l)) ≡ Refuse InvalidFrame
+  pub borrowed-barred : C .endOf l ≤ n → C .allowed d l ≡ false → said ≡ Falls atLength
   borrowed-barred k h = LDataLaws.last-two C n d l ∙ simp (le-ltb n (C .endOf l) k, h)
 
-  pub borrowed-stands : C .endOf l ≤ n → C .allowed d l ≡ true → verdict (drop 1 (LData.checks C n d l)) ≡ Accept
+  pub borrowed-stands : C .endOf l ≤ n → C .allowed d l ≡ true → said ≡ Stands
   borrowed-stands k h = LDataLaws.last-two C n d l ∙ simp (le-ltb n (C .endOf l) k, h)
 
 -- ---- what parsing borrows is handed out whole
@@ -65,7 +75,7 @@ whole : (C : Count) (d : Bool) (l : ℕ) (s : List ℕ) → startOf d ≤ C .end
     → shown s (judged (drop 1 (LData.checks C (startOf d + length s) d l)) (viewed 0 (C .endOf l - startOf d))) ≡ s
 whole C d l s starts fits n =
     let e = C .endOf l - startOf d in
-    ap (shown s) (let-pass (drop 1 (LData.checks C (startOf d + length s) d l)) (viewed 0 e) (borrowed-stands C d l (startOf d + length s) (omega arith) fits)) ∙ part-is s 0 e (omega arith) (omega arith) ∙ take-all (e - 0) s (omega arith)
+    ap (shown s) (let-pass (drop 1 (LData.checks C (startOf d + length s) d l)) (viewed 0 e) (stands-accepted (drop 1 (LData.checks C (startOf d + length s) d l)) LData.lengthOffsets (borrowed-stands C d l (startOf d + length s) (omega arith) fits))) ∙ part-is s 0 e (omega arith) (omega arith) ∙ take-all (e - 0) s (omega arith)
 
 borrowed-whole : (c : Counting) (s : List ℕ) (f : LDataFields) → LData.ParseInPromise c s (Frame f) → dataOfIn (countBy c) (Frame f) (dataInCount (countBy c) s) ≡ dataInCount (countBy c) s
 borrowed-whole c s f p =
@@ -96,14 +106,14 @@ data-in c s f r p q = q ∙ data-of c s (f .answer) (now (f .«data»)) (p .0) (
 
 -- ---- refused
 
-pub borrows-none : (c : Counting) (s : List ℕ) (f : LDataFrame) (e : Refusal) → ParseInPromise c s f → f .answer ≡ Refused e → now (f .«data») ≡ []
+pub borrows-none : (c : Counting) (s : List ℕ) (f : LDataFrame) (e : Fault) → ParseInPromise c s f → f .answer ≡ Refused e → now (f .«data») ≡ []
 borrows-none c s f e p q = p .0 ∙ refused-data c s e (sym (ap LData.told q) ∙ p .1)
 
-pub data-none : (c : Counting) (f : LDataFrame) (e : Refusal) (r : List ℕ) → f .answer ≡ Refused e → FrameDataInPromise c f r → r ≡ []
+pub data-none : (c : Counting) (f : LDataFrame) (e : Fault) (r : List ℕ) → f .answer ≡ Refused e → FrameDataInPromise c f r → r ≡ []
 data-none c f e r q p = p ∙ ap (λ (a : LDataAnswer). dataOfIn (countBy c) a (now (f .«data»))) q ∙ empty-part (now (f .«data»))
 
 -- the view of a refused record tells that refusal
-pub view-none : (c : Counting) (s : List ℕ) (a : LDataAnswer) (e : Refusal) (r : View) → a ≡ Refused e → DataViewInPromise c s a r → Parts.told r ≡ refused 0 e
+pub view-none : (c : Counting) (s : List ℕ) (a : LDataAnswer) (e : Fault) (r : View) → a ≡ Refused e → DataViewInPromise c s a r → Parts.told r ≡ refused 0 e
 view-none c s a e r q p = p ∙ ap (λ (b : LDataAnswer). viewIn (countBy c) b s) q
 
 -- a view that is refused tells its number and no more

@@ -40,7 +40,7 @@ pub fn body_view(data: &[u8], answer: FrameAnswer) -> View
 {
     match answer {
         FrameAnswer::Frame(frame) => frame.body(data),
-        FrameAnswer::Refused(why) => View::refused(why),
+        FrameAnswer::Refused(fault) => View::refused(fault),
     }
 }
 

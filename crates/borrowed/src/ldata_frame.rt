@@ -3,6 +3,7 @@ ghost use Rattle.borrowed.specs.LDataFrame.{ParsePromise, ParseInPromise
 use ldata::Counting;
 use ldata::LDataAnswer;
 use ldata::LDataFields;
+use wire::Fault;
 use wire::Refusal;
 use wire::View;
 
@@ -68,7 +69,7 @@ pub fn data_view_in(counting: Counting, data: &[u8], answer: LDataAnswer) -> Vie
 {
     match answer {
         LDataAnswer::Frame(frame) => borrowed_view(counting, data, frame),
-        LDataAnswer::Refused(why) => View::refused(why),
+        LDataAnswer::Refused(fault) => View::refused(fault),
     }
 }
 
@@ -80,17 +81,22 @@ fn borrowed_view(counting: Counting, data: &[u8], frame: LDataFields) -> View
     let is_data = tpci.is_data();
     let start = ldata::data_start(is_data);
     let end = counting.data_end(frame.npdu_length);
+    let fault = Fault {
+        why: Refusal::InvalidFrame,
+        at: 6,
+    };
     if start + data.len() < end {
-        return View::refused(Refusal::InvalidFrame);
+        return View::refused(fault);
     }
     if counting.allows(is_data, frame.npdu_length) {
         return View {
             number: 0,
             start: 0,
             end: end - start,
+            offset: 0,
         };
     }
-    View::refused(Refusal::InvalidFrame)
+    View::refused(fault)
 }
 
 fn data_of(counting: Counting, data: &[u8], answer: LDataAnswer) -> &[u8]

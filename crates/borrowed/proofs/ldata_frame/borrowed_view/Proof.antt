@@ -1,17 +1,18 @@
 -- `borrowed_view` keeps its contract: a law for each way out. Assumes nothing.
 use Prim.Native.Nat.{ℕ, _+_, _-_}
 use native.Mathlib.Omega.{arith}
-use mathlib.Core.Path.{sym, ap, _∙_}
+use mathlib.Core.Path.{refl, sym, ap, _∙_}
 use mathlib.Core.Bool.{Bool}
 use lib.ListN.{length}
 use Rattle.wire.specs.Told.{viewed}
-use Rattle.wire.specs.ToldLaws.{let-pass, let-refuse}
-use Rattle.wire.specs.declared.refusals.Refusal.the-variants.{InvalidFrame}
+use Rattle.wire.specs.PlaceLaws.{stands-accepted, located-pass, located-fall}
 use Rattle.pci.specs.Transport.{isData}
 use Rattle.ldata.specs.Count.{startOf, countBy}
 use Rattle.ldata.specs.CountLaws.{lawful}
+use Rattle.ldata.specs.LData.{lengthOffsets}
+use Rattle.ldata.specs.LDataLaws.{one-each}
 use Rattle.borrowed.specs.LDataFrame.{borrowedChecks}
-use Rattle.borrowed.specs.LDataFrameLaws.{start-most, borrowed-short, borrowed-barred, borrowed-stands}
+use Rattle.borrowed.specs.LDataFrameLaws.{start-most, atLength, borrowed-short, borrowed-barred, borrowed-stands}
 use borrow.Author.Needs.{needs}
 use Rattle.borrowed.proofs.ldata_frame.borrowed_view.Statement.{statement}
 use Rattle.borrowed.proofs.ldata_frame.borrowed_view.Tie as tie
@@ -42,13 +43,13 @@ returns c =
     let start = c .before .before .before .data-start .ensures ∙ ap startOf (c .before .before .before .before .is-data .ensures) in
     let end = c .before .before .data-end .ensures in
     c .refused .ensures
-    ∙ sym (let-refuse (borrowedChecks C f n) (viewed 0 (C .endOf l - startOf d)) InvalidFrame (borrowed-short C d l (startOf d + n) (omega (arith, start, end, c .before .if1 .taken))))
+    ∙ sym (located-fall (borrowedChecks C f n) lengthOffsets (viewed 0 (C .endOf l - startOf d)) atLength (borrowed-short C d l (startOf d + n) (omega (arith, start, end, c .before .if1 .taken))))
 
 allows-requires : tie.Need-allows-requires
 allows-requires c κs = search needs
 
-sub-t13 : tie.Need-sub-t13
-sub-t13 c =
+sub-t14 : tie.Need-sub-t14
+sub-t14 c =
     let at-1 = c .before .before .before in
     let a = at-1 .before .before .before .before .args in
     let starts = lawful (a .counting) .starts (at-1 .before .before .is-data .result) (a .frame .«npdu_length») (sym (c .before .allows .ensures) ∙ c .if2 .taken) in
@@ -69,7 +70,8 @@ returns-2 c =
     let fits = ap (λ (b : Bool). C .allowed b l) (sym kind) ∙ sym (c .before .allows .ensures) ∙ c .if2 .taken in
     ap (λ (k : ℕ). viewed 0 (k - at-1 .before .data-start .result)) end
     ∙ ap (λ (k : ℕ). viewed 0 (C .endOf l - k)) start
-    ∙ sym (let-pass (borrowedChecks C f n) (viewed 0 (C .endOf l - startOf d)) (borrowed-stands C d l (startOf d + n) (omega (arith, start, end, c .before .before .if1 .left)) fits))
+    ∙ sym (located-pass (borrowedChecks C f n) lengthOffsets (viewed 0 (C .endOf l - startOf d)) (omega (arith, one-each C (startOf d + n) d l)) refl
+    (stands-accepted (borrowedChecks C f n) lengthOffsets (borrowed-stands C d l (startOf d + n) (omega (arith, start, end, c .before .before .if1 .left)) fits)))
 
 refused-requires-2 : tie.Need-refused-requires-2
 refused-requires-2 c κs = search needs
@@ -88,7 +90,7 @@ returns-3 c =
     let end = at-1 .data-end .ensures in
     let bars = ap (λ (b : Bool). C .allowed b l) (sym kind) ∙ sym (c .before .before .allows .ensures) ∙ c .before .if2 .left in
     c .refused2 .ensures
-    ∙ sym (let-refuse (borrowedChecks C f n) (viewed 0 (C .endOf l - startOf d)) InvalidFrame (borrowed-barred C d l (startOf d + n) (omega (arith, start, end, c .before .before .before .if1 .left)) bars))
+    ∙ sym (located-fall (borrowedChecks C f n) lengthOffsets (viewed 0 (C .endOf l - startOf d)) atLength (borrowed-barred C d l (startOf d + n) (omega (arith, start, end, c .before .before .before .if1 .left)) bars))
 
 pub borrowed-view-spec : {M : Type 1} → statement M
 borrowed-view-spec =
@@ -101,7 +103,7 @@ borrowed-view-spec =
     refused-requires
     returns
     allows-requires
-    sub-t13
+    sub-t14
     returns-2
     refused-requires-2
     returns-3)
