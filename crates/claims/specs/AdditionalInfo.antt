@@ -10,6 +10,7 @@ use Rattle.wire.specs.Writing.{tells}
 use Rattle.wire.specs.Writing as Writing
 use Rattle.wire.specs.Parts as Parts
 use Rattle.wire.specs.declared.parts.View.{View}
+use Rattle.wire.specs.declared.refusals.Fault.{Fault}
 use Rattle.wire.specs.declared.refusals.Refusal.the-variants.{InvalidAdditionalInfo}
 use Rattle.wire.specs.declared.refusals.Verdict.the-variants.{Accept}
 use Rattle.wire.specs.declared.refusals.Written.{Written}
@@ -67,9 +68,10 @@ infoTold i = record {
   values = Area.valuesOf (InfoType.typeOf (i .code)) (Area.timestampOf i);
   start = 2;
   end = 2 + length (i .«data»);
+  offset = 0;
 }
 
-pub info-reads-back : ReadsBack (λ (i : Info). Unit {0}) Area.layout infoTold Area.parseBy02
+pub info-reads-back : ReadsBack (λ (i : Info). Unit {0}) Area.layout infoTold Area.parseWhere
 info-reads-back i rest p = AreaLaws.reads-back i rest
 
 -- wherever 02 lets it, a writer counts what it wrote, and the old records and the new one are read from it
@@ -157,8 +159,12 @@ stampedInfo t value start end = AdditionalInfoAnswer.Record (record { «info_typ
 abbrev plainInfo : AdditionalInfoType → ℕ → ℕ → AdditionalInfoAnswer
 plainInfo t start end = AdditionalInfoAnswer.Record (record { «info_type» = t; timestamp = Timestamp.None; start = start; end = end })
 
-abbrev refused14 : AdditionalInfoAnswer
-refused14 = AdditionalInfoAnswer.Refused InvalidAdditionalInfo
+-- 14, at the type byte of the record that does not stand
+abbrev broken : ℕ → Fault
+broken at = record { why = InvalidAdditionalInfo; at = at }
+
+abbrev refused14 : ℕ → AdditionalInfoAnswer
+refused14 at = AdditionalInfoAnswer.Refused (broken at)
 
 -- a relative timestamp, a type without a name, an extended timestamp: records of 2, 1 and 4 bytes
 abbrev threeRecords : List ℕ
@@ -167,8 +173,8 @@ threeRecords = 0x04 ∷ 0x02 ∷ 0x12 ∷ 0x34 ∷ 0x99 ∷ 0x01 ∷ 0xAA ∷ 0x
 pub record Reading : Type 0 where
   -- nothing; a lone type byte; a record past the end; a record without data
   pub empty : Area.ParsePromise [] AdditionalInfoAnswer.None
-  pub lone-type : Area.ParsePromise (0x04 ∷ []) refused14
-  pub past-the-end : Area.ParsePromise (0x04 ∷ 0x03 ∷ 0x00 ∷ 0x00 ∷ []) refused14
+  pub lone-type : Area.ParsePromise (0x04 ∷ []) (refused14 0)
+  pub past-the-end : Area.ParsePromise (0x04 ∷ 0x03 ∷ 0x00 ∷ 0x00 ∷ []) (refused14 0)
   pub no-data : Area.ParsePromise (0x04 ∷ 0x00 ∷ []) (plainInfo AdditionalInfoType.RelativeTimestamp 2 2)
   -- the first of three, and the others by their places; behind the last there is none
   pub first : Area.ParsePromise threeRecords (stampedInfo AdditionalInfoType.RelativeTimestamp 0x1234 2 4)
@@ -183,12 +189,12 @@ pub record Reading : Type 0 where
   pub delay : Area.ParsePromise (0x05 ∷ 0x02 ∷ 1 ∷ 2 ∷ []) (plainInfo AdditionalInfoType.TimeDelay 2 4)
   -- one record is read from the front alone; the whole area is judged for a count and for the n-th
   pub front-alone : Area.ParsePromise (0x04 ∷ 0x00 ∷ 0x99 ∷ []) (plainInfo AdditionalInfoType.RelativeTimestamp 2 2)
-  pub whole-counted : Area.CountPromise (0x04 ∷ 0x00 ∷ 0x99 ∷ []) (CountAnswer.Refused InvalidAdditionalInfo)
-  pub whole-nth : Area.NthPromise (0x04 ∷ 0x00 ∷ 0x99 ∷ []) 0 refused14
+  pub whole-counted : Area.CountPromise (0x04 ∷ 0x00 ∷ 0x99 ∷ []) (CountAnswer.Refused (broken 2))
+  pub whole-nth : Area.NthPromise (0x04 ∷ 0x00 ∷ 0x99 ∷ []) 0 (refused14 2)
   pub none-counted : Area.CountPromise [] (CountAnswer.Count 0)
   -- more records than one walk takes, and a lone type byte behind them
   pub zeros-counted : Area.CountPromise (replicate 260 0) (CountAnswer.Count 130)
-  pub zeros-and-one : Area.CountPromise (replicate 261 0) (CountAnswer.Refused InvalidAdditionalInfo)
+  pub zeros-and-one : Area.CountPromise (replicate 261 0) (CountAnswer.Refused (broken 260))
 
 pub reading : Reading
 unfolding recordsIn behind
@@ -254,7 +260,7 @@ pub record Writing02 : Type 0 where
   pub old-service-info : Cemi.serviceInfoBy01 loneType ≡ viewed 3 13
   pub old-as-ldata : Cemi.asLDataBy01 indication loneType .number ≡ 0
   pub area-of-it : Cemi.infoBy02 loneType ≡ viewed 2 3
-  pub area-judged : Area.CountPromise (Parts.shown loneType (Cemi.infoBy02 loneType)) (CountAnswer.Refused InvalidAdditionalInfo)
+  pub area-judged : Area.CountPromise (Parts.shown loneType (Cemi.infoBy02 loneType)) (CountAnswer.Refused (broken 0))
   -- the area is asked for as the rest is: 1, 6, 2
   pub area-short : Cemi.infoBy02 (0x29 ∷ []) .number ≡ 1
   pub area-code : Cemi.infoBy02 (0x13 ∷ 0x05 ∷ []) .number ≡ 6

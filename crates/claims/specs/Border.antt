@@ -29,9 +29,9 @@ use Rattle.claims.specs.Layouts.{endpointBytes, nines, stamped}
 pub record Reads : Type 0 where
   -- an acknowledgement's eleven bytes and one more
   pub frame : KnxReading.FramePromise (0x06 ∷ 0x10 ∷ 0x04 ∷ 0x21 ∷ 0x00 ∷ 0x0B ∷ 0x04 ∷ 0x15 ∷ 0x07 ∷ 0x00 ∷ 0x00 ∷ 0xEE ∷ [])
-      (record { start = 6; end = 11; service = 0x0421; total = 11; number = 0 })
+      (record { start = 6; end = 11; service = 0x0421; total = 11; offset = 0; number = 0 })
   pub hpai : KnxReading.HpaiPromise endpointBytes
-      (record { «structure_length» = 8; «host_protocol» = 1; address = 192 ∷ 168 ∷ 1 ∷ 2 ∷ []; port = 3671; number = 0 })
+      (record { «structure_length» = 8; «host_protocol» = 1; address = 192 ∷ 168 ∷ 1 ∷ 2 ∷ []; port = 3671; offset = 0; number = 0 })
   pub connect-response : KnxReading.ConnectResponsePromise (0x15 ∷ 0x00 ∷ endpointBytes ++ 0x04 ∷ 0x05 ∷ 0x11 ∷ 0x0A ∷ [])
       (record {
         channel = 0x15;
@@ -41,18 +41,19 @@ pub record Reads : Type 0 where
         address = 192 ∷ 168 ∷ 1 ∷ 2 ∷ [];
         port = 3671;
         crd = 0x04 ∷ 0x05 ∷ 0x11 ∷ 0x0A ∷ [];
+        offset = 0;
         number = 0;
       })
   -- in KNX's form a refusal has two bytes
   pub connect-refused : KnxReading.ConnectResponseStandardPromise (0x15 ∷ 0x24 ∷ [])
-      (record { channel = 0x15; status = 0x24; «structure_length» = 0; «host_protocol» = 0; address = replicate 4 0; port = 0; crd = replicate 4 0; number = 0 })
+      (record { channel = 0x15; status = 0x24; «structure_length» = 0; «host_protocol» = 0; address = replicate 4 0; port = 0; crd = replicate 4 0; offset = 0; number = 0 })
   pub own-address : KnxReading.OwnAddressPromise
-      (record { channel = 0x15; status = 0; «structure_length» = 8; «host_protocol» = 1; address = 192 ∷ 168 ∷ 1 ∷ 2 ∷ []; port = 3671; crd = 0x04 ∷ 0x05 ∷ 0x11 ∷ 0x0A ∷ []; number = 0 })
+      (record { channel = 0x15; status = 0; «structure_length» = 8; «host_protocol» = 1; address = 192 ∷ 168 ∷ 1 ∷ 2 ∷ []; port = 3671; crd = 0x04 ∷ 0x05 ∷ 0x11 ∷ 0x0A ∷ []; offset = 0; number = 0 })
       0x110A
-  pub status : KnxChannel.StatusPromise (0x15 ∷ 0x21 ∷ 0xEE ∷ []) (record { channel = 0x15; status = 0x21; number = 0 })
-  pub status-short : KnxChannel.StatusPromise (0x15 ∷ []) (record { channel = 0; status = 0; number = 1 })
+  pub status : KnxChannel.StatusPromise (0x15 ∷ 0x21 ∷ 0xEE ∷ []) (record { channel = 0x15; status = 0x21; offset = 0; number = 0 })
+  pub status-short : KnxChannel.StatusPromise (0x15 ∷ []) (record { offset = 1; channel = 0; status = 0; number = 1 })
   pub disconnect-request : KnxChannel.DisconnectRequestPromise (0x15 ∷ 0x00 ∷ endpointBytes)
-      (record { channel = 0x15; «structure_length» = 8; «host_protocol» = 1; address = 192 ∷ 168 ∷ 1 ∷ 2 ∷ []; port = 3671; number = 0 })
+      (record { channel = 0x15; «structure_length» = 8; «host_protocol» = 1; address = 192 ∷ 168 ∷ 1 ∷ 2 ∷ []; port = 3671; offset = 0; number = 0 })
   -- a group write of 2A behind two bytes of additional information
   pub cemi-ldata : CemiLData.CemiLDataPromise stamped
       (record {
@@ -70,6 +71,7 @@ pub record Reads : Type 0 where
         «apci_named» = 1;
         «control_code» = 0;
         «six_bit» = 0;
+        offset = 0;
         number = 0;
       })
   -- a numbered packet of sequence 5 with the unnamed code 0x2C0 and the number 6
@@ -89,6 +91,7 @@ pub record Reads : Type 0 where
         «apci_named» = 0;
         «control_code» = 0;
         «six_bit» = 6;
+        offset = 0;
         number = 0;
       })
   -- the switch telegram of a real gateway, and T_Ack of sequence 5
@@ -108,6 +111,7 @@ pub record Reads : Type 0 where
         «apci_named» = 1;
         «control_code» = 0;
         «six_bit» = 1;
+        offset = 0;
         number = 0;
       })
   pub cemi-ack : CemiLData.CemiLDataStandardPromise (0x29 ∷ 0x00 ∷ 0xB0 ∷ 0x60 ∷ 0x11 ∷ 0x05 ∷ 0x12 ∷ 0x0A ∷ 0x00 ∷ 0xD6 ∷ [])
@@ -126,6 +130,7 @@ pub record Reads : Type 0 where
         «apci_named» = 0;
         «control_code» = 2;
         «six_bit» = 0;
+        offset = 0;
         number = 0;
       })
 
@@ -150,19 +155,19 @@ reads = record {
 
 -- no record, and beside a number
 abbrev noInfo : ℕ → KnxAdditionalInfo
-noInfo n = record { start = 0; end = 0; timestamp = 0; found = 0; named = 0; «info_type» = 0; timestamped = 0; number = n }
+noInfo n = record { start = 0; end = 0; timestamp = 0; found = 0; named = 0; «info_type» = 0; timestamped = 0; offset = 0; number = n }
 
 pub record Infos : Type 0 where
-  pub area : KnxInfo.AreaPromise stamped (record { start = 2; end = 4; number = 0 })
-  pub area-refused : KnxInfo.AreaPromise (0x13 ∷ 0x00 ∷ []) (record { start = 0; end = 0; number = 6 })
+  pub area : KnxInfo.AreaPromise stamped (record { start = 2; end = 4; offset = 0; number = 0 })
+  pub area-refused : KnxInfo.AreaPromise (0x13 ∷ 0x00 ∷ []) (record { start = 0; end = 0; offset = 0; number = 6 })
   -- an extended timestamp of four bytes, then a type without a name
   pub first : KnxInfo.FirstPromise (0x06 ∷ 0x04 ∷ 0x80 ∷ 0x01 ∷ 0x02 ∷ 0x03 ∷ 0x99 ∷ 0x01 ∷ 0xAA ∷ [])
-      (record { start = 2; end = 6; timestamp = 0x80010203; found = 1; named = 1; «info_type» = 6; timestamped = 1; number = 0 })
+      (record { start = 2; end = 6; timestamp = 0x80010203; found = 1; named = 1; «info_type» = 6; timestamped = 1; offset = 0; number = 0 })
   pub second : KnxInfo.NthPromise (0x06 ∷ 0x04 ∷ 0x80 ∷ 0x01 ∷ 0x02 ∷ 0x03 ∷ 0x99 ∷ 0x01 ∷ 0xAA ∷ []) 1
-      (record { start = 8; end = 9; timestamp = 0; found = 1; named = 0; «info_type» = 0x99; timestamped = 0; number = 0 })
+      (record { start = 8; end = 9; timestamp = 0; found = 1; named = 0; «info_type» = 0x99; timestamped = 0; offset = 0; number = 0 })
   pub none : KnxInfo.FirstPromise [] (noInfo 0)
   pub refused : KnxInfo.FirstPromise (0x04 ∷ []) (noInfo 14)
-  pub two : KnxInfo.CountPromise (0x06 ∷ 0x00 ∷ 0x99 ∷ 0x01 ∷ 0xAA ∷ []) (record { count = 2; number = 0 })
+  pub two : KnxInfo.CountPromise (0x06 ∷ 0x00 ∷ 0x99 ∷ 0x01 ∷ 0xAA ∷ []) (record { count = 2; offset = 0; number = 0 })
 
 pub infos : Infos
 unfolding recordsIn behind
@@ -180,7 +185,7 @@ abbrev otherBytes : List ℕ
 otherBytes = 0x08 ∷ 0x01 ∷ 0x0A ∷ 0x00 ∷ 0x00 ∷ 0x03 ∷ 0x0E ∷ 0x58 ∷ []
 
 abbrev wrote : ℕ → KnxWritten
-wrote n = record { count = n; number = 0 }
+wrote n = record { count = n; offset = 0; number = 0 }
 
 pub record Builds : Type 0 where
   pub ldata : Building.LDataBuildPromise 0xBC 0x60 0x1105 0x0803 0x54 0x240 6 (0x2A ∷ []) (nines ++ nines) (wrote 10)
@@ -200,7 +205,7 @@ pub record Builds : Type 0 where
   pub info-append : KnxInfo.AppendPromise (0x99 ∷ 0x01 ∷ 0xAA ∷ []) 0x04 (0x12 ∷ 0x34 ∷ []) nines (wrote 7) (0x99 ∷ 0x01 ∷ 0xAA ∷ 0x04 ∷ 0x02 ∷ 0x12 ∷ 0x34 ∷ 9 ∷ 9 ∷ [])
   -- L_Data.con around an area and three bytes; a code that is none of the seven is 6 before the area's 14
   pub cemi-build : KnxInfo.BuildPromise 0x2E (0x99 ∷ 0x01 ∷ 0xAA ∷ []) (0xBC ∷ 0xE0 ∷ 0x11 ∷ []) nines (wrote 8) (0x2E ∷ 0x03 ∷ 0x99 ∷ 0x01 ∷ 0xAA ∷ 0xBC ∷ 0xE0 ∷ 0x11 ∷ 9 ∷ [])
-  pub cemi-code : KnxInfo.BuildPromise 0x13 (0x99 ∷ []) [] [] (record { count = 0; number = 6 }) []
+  pub cemi-code : KnxInfo.BuildPromise 0x13 (0x99 ∷ []) [] [] (record { count = 0; offset = 0; number = 6 }) []
   pub tunneling-ack : Building.TunnelingAckPromise 0x15 0x07 0x29 (nines ++ nines) (wrote 11)
       (0x06 ∷ 0x10 ∷ 0x04 ∷ 0x21 ∷ 0x00 ∷ 0x0B ∷ 0x04 ∷ 0x15 ∷ 0x07 ∷ 0x00 ∷ 0x29 ∷ replicate 7 9)
   pub tunneling-ack-standard : Building.TunnelingAckStandardPromise 0x15 0x07 0x29 (nines ++ nines) (wrote 10)
@@ -248,7 +253,7 @@ twoPlaces =
     ∷ replicate 6 (record { hold = Free })
 
 abbrev said : ℕ → KnxCalled
-said n = record { start = 0; end = 0; written = 0; said = n; number = 0 }
+said n = record { start = 0; end = 0; written = 0; said = n; offset = 0; number = 0 }
 
 pub record Tables : Type 0 where
   pub unpacked : Image.UnpackPromise two (record { places = twoPlaces })
@@ -260,12 +265,12 @@ pub record Tables : Type 0 where
   pub gives-up : Called.TimeoutPromise two 0x16 (said 2) (imageOf (place 0x15 7 3 1) none)
   -- the request has the sending number 3, and the channel waits first
   pub sends : Called.SendPromise (imageOf (place 0x15 7 3 0) none) 0x15 (0x11 ∷ 0x01 ∷ []) (nines ++ nines)
-      (record { start = 0; end = 0; written = 12; said = 0; number = 0 })
+      (record { start = 0; end = 0; written = 12; said = 0; offset = 0; number = 0 })
       (imageOf (place 0x15 7 3 1) none)
       (0x06 ∷ 0x10 ∷ 0x04 ∷ 0x20 ∷ 0x00 ∷ 0x0C ∷ 0x04 ∷ 0x15 ∷ 0x03 ∷ 0x00 ∷ 0x11 ∷ 0x01 ∷ replicate 6 9)
   -- request number 7 is delivered and acknowledged; acknowledgement number 3 says "sent"
   pub delivers : Called.DatagramPromise two (0x06 ∷ 0x10 ∷ 0x04 ∷ 0x20 ∷ 0x00 ∷ 0x0C ∷ 0x04 ∷ 0x15 ∷ 0x07 ∷ 0x00 ∷ 0x29 ∷ 0x01 ∷ 0xEE ∷ []) (nines ++ nines)
-      (record { start = 10; end = 12; written = 11; said = 3; number = 0 })
+      (record { start = 10; end = 12; written = 11; said = 3; offset = 0; number = 0 })
       (imageOf (place 0x15 8 3 1) (place 0x16 8 4 2))
       (0x06 ∷ 0x10 ∷ 0x04 ∷ 0x21 ∷ 0x00 ∷ 0x0B ∷ 0x04 ∷ 0x15 ∷ 0x07 ∷ 0x00 ∷ 0x00 ∷ replicate 7 9)
   pub sent : Called.DatagramPromise two (0x06 ∷ 0x10 ∷ 0x04 ∷ 0x21 ∷ 0x00 ∷ 0x0B ∷ 0x04 ∷ 0x15 ∷ 0x03 ∷ 0x00 ∷ 0x00 ∷ []) [] (said 6)
@@ -274,7 +279,7 @@ pub record Tables : Type 0 where
   pub ignored : Called.DatagramPromise two (0x06 ∷ 0x10 ∷ 0x04 ∷ 0x21 ∷ 0x00 ∷ 0x0B ∷ 0x04 ∷ 0x15 ∷ 0x07 ∷ 0x00 ∷ 0x00 ∷ []) [] (said 7) two []
   -- in KNX's form ten bytes, both ways; status 0x29 acts as a timeout
   pub delivers-standard : Called.DatagramStandardPromise two (0x06 ∷ 0x10 ∷ 0x04 ∷ 0x20 ∷ 0x00 ∷ 0x0C ∷ 0x04 ∷ 0x15 ∷ 0x07 ∷ 0x00 ∷ 0x29 ∷ 0x01 ∷ 0xEE ∷ []) (replicate 10 9)
-      (record { start = 10; end = 12; written = 10; said = 3; number = 0 })
+      (record { start = 10; end = 12; written = 10; said = 3; offset = 0; number = 0 })
       (imageOf (place 0x15 8 3 1) (place 0x16 8 4 2))
       (0x06 ∷ 0x10 ∷ 0x04 ∷ 0x21 ∷ 0x00 ∷ 0x0A ∷ 0x04 ∷ 0x15 ∷ 0x07 ∷ 0x00 ∷ [])
   pub sent-standard : Called.DatagramStandardPromise two (0x06 ∷ 0x10 ∷ 0x04 ∷ 0x21 ∷ 0x00 ∷ 0x0A ∷ 0x04 ∷ 0x15 ∷ 0x03 ∷ 0x00 ∷ []) [] (said 6)
@@ -284,7 +289,7 @@ pub record Tables : Type 0 where
       (imageOf (place 0x15 7 3 2) (place 0x16 8 4 2))
       []
   -- an image of 39 bytes is 1
-  pub short : Called.OpenPromise (replicate 39 0) 0x15 (record { start = 0; end = 0; written = 0; said = 0; number = 1 }) (replicate 39 0)
+  pub short : Called.OpenPromise (replicate 39 0) 0x15 (record { start = 0; end = 0; written = 0; said = 0; offset = 0; number = 1 }) (replicate 39 0)
 
 pub tables : Tables
 tables = record {

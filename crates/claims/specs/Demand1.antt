@@ -9,6 +9,7 @@ use Rattle.wire.specs.Writing.{WritePromise, Write3Promise, room}
 use Rattle.wire.specs.Writing as Writing
 use Rattle.wire.specs.Parts as Parts
 use Rattle.wire.specs.PartLaws.{shown-refused}
+use Rattle.wire.specs.declared.refusals.Fault.{Fault}
 use Rattle.wire.specs.declared.refusals.Refusal.{Refusal}
 use Rattle.wire.specs.declared.refusals.Verdict.{Verdict}
 use Rattle.wire.specs.declared.refusals.Verdict.the-variants.{Refuse}
@@ -136,7 +137,7 @@ use Rattle.knx.specs.declared.called.KnxCalled.{KnxCalled}
 -- ---- wire
 
 -- wire::View::refused
-pub view-refused : (e : Refusal) (r : View) → Parts.RefusedPromise e r → Zeros (Parts.told r)
+pub view-refused : (e : Fault) (r : View) → Parts.RefusedPromise e r → Zeros (Parts.told r)
 view-refused e r p = rw p (refused-zeros 0 e)
 
 -- wire::write
@@ -492,11 +493,11 @@ table-heard-in = Compiled.heard-in-refusing
 pub knxnet-ip-parse : (s : List ℕ) (r : KnxnetIpFrame) → KnxnetIpFrame.ParsePromise s r → Refusing (Frame.told (r .answer))
 knxnet-ip-parse s r p = frame-parse s (r .answer) (p .1)
 
-pub knxnet-ip-borrows : (s : List ℕ) (r : KnxnetIpFrame) (e : Refusal) → KnxnetIpFrame.ParsePromise s r → r .answer ≡ FrameAnswer.Refused e → now (r .«data») ≡ []
+pub knxnet-ip-borrows : (s : List ℕ) (r : KnxnetIpFrame) (e : Fault) → KnxnetIpFrame.ParsePromise s r → r .answer ≡ FrameAnswer.Refused e → now (r .«data») ≡ []
 knxnet-ip-borrows = KnxnetIpFrameLaws.borrows-none
 
 -- borrowed::KnxnetIpFrame::body
-pub knxnet-ip-body : (f : KnxnetIpFrame) (e : Refusal) (r : List ℕ) → f .answer ≡ FrameAnswer.Refused e → KnxnetIpFrame.BodyPromise f r → r ≡ []
+pub knxnet-ip-body : (f : KnxnetIpFrame) (e : Fault) (r : List ℕ) → f .answer ≡ FrameAnswer.Refused e → KnxnetIpFrame.BodyPromise f r → r ≡ []
 knxnet-ip-body = KnxnetIpFrameLaws.body-none
 
 pub knxnet-ip-body-part : (f : KnxnetIpFrame) (v : View) (r : List ℕ) → KnxnetIpFrame.BodyViewPromise (now (f .«data»)) (f .answer) v → KnxnetIpFrame.BodyPromise f r → (v .number ≡ 0 → ⊥) → r ≡ []
@@ -506,7 +507,7 @@ knxnet-ip-body-part = KnxnetIpFrameLaws.body-refused
 pub knxnet-ip-body-view : (s : List ℕ) (a : FrameAnswer) (r : View) → KnxnetIpFrame.BodyViewPromise s a r → Refusing (Parts.told r)
 knxnet-ip-body-view = KnxnetIpFrameLaws.view-refusing
 
-pub knxnet-ip-body-number : (s : List ℕ) (a : FrameAnswer) (e : Refusal) (r : View) → a ≡ FrameAnswer.Refused e → KnxnetIpFrame.BodyViewPromise s a r → Parts.told r ≡ refused 0 e
+pub knxnet-ip-body-number : (s : List ℕ) (a : FrameAnswer) (e : Fault) (r : View) → a ≡ FrameAnswer.Refused e → KnxnetIpFrame.BodyViewPromise s a r → Parts.told r ≡ refused 0 e
 knxnet-ip-body-number = KnxnetIpFrameLaws.view-none
 
 -- borrowed::body_in
@@ -517,7 +518,7 @@ knxnet-ip-body-in s r e v q = q ∙ shown-refused (Frame.checks (length s) (get 
 pub ldata-frame-parse-in : (c : Counting) (s : List ℕ) (r : LDataFrame) → LDataFrame.ParseInPromise c s r → Refusing (LData.told (r .answer))
 ldata-frame-parse-in c s r p = ldata-parse-in c s (r .answer) (p .1)
 
-pub ldata-frame-borrows : (c : Counting) (s : List ℕ) (r : LDataFrame) (e : Refusal) → LDataFrame.ParseInPromise c s r → r .answer ≡ LDataAnswer.Refused e → now (r .«data») ≡ []
+pub ldata-frame-borrows : (c : Counting) (s : List ℕ) (r : LDataFrame) (e : Fault) → LDataFrame.ParseInPromise c s r → r .answer ≡ LDataAnswer.Refused e → now (r .«data») ≡ []
 ldata-frame-borrows = LDataFrameLaws.borrows-none
 
 -- borrowed::LDataFrame::parse
@@ -525,21 +526,21 @@ pub ldata-frame-parse : (s : List ℕ) (r : LDataFrame) → LDataFrame.ParseProm
 ldata-frame-parse = ldata-frame-parse-in Crate
 
 -- borrowed::LDataFrame::data_in
-pub ldata-frame-data-of : (c : Counting) (f : LDataFrame) (e : Refusal) (r : List ℕ) → f .answer ≡ LDataAnswer.Refused e → LDataFrame.FrameDataInPromise c f r → r ≡ []
+pub ldata-frame-data-of : (c : Counting) (f : LDataFrame) (e : Fault) (r : List ℕ) → f .answer ≡ LDataAnswer.Refused e → LDataFrame.FrameDataInPromise c f r → r ≡ []
 ldata-frame-data-of = LDataFrameLaws.data-none
 
 pub ldata-frame-data-part : (c : Counting) (f : LDataFrame) (v : View) (r : List ℕ) → LDataFrame.DataViewInPromise c (now (f .«data»)) (f .answer) v → LDataFrame.FrameDataInPromise c f r → (v .number ≡ 0 → ⊥) → r ≡ []
 ldata-frame-data-part = LDataFrameLaws.data-refused
 
 -- borrowed::LDataFrame::data
-pub ldata-frame-data : (f : LDataFrame) (e : Refusal) (r : List ℕ) → f .answer ≡ LDataAnswer.Refused e → LDataFrame.DataPromise f r → r ≡ []
+pub ldata-frame-data : (f : LDataFrame) (e : Fault) (r : List ℕ) → f .answer ≡ LDataAnswer.Refused e → LDataFrame.DataPromise f r → r ≡ []
 ldata-frame-data = ldata-frame-data-of Crate
 
 -- borrowed::data_view_in
 pub ldata-frame-data-view-in : (c : Counting) (s : List ℕ) (a : LDataAnswer) (r : View) → LDataFrame.DataViewInPromise c s a r → Refusing (Parts.told r)
 ldata-frame-data-view-in = LDataFrameLaws.view-refusing
 
-pub ldata-frame-data-number : (c : Counting) (s : List ℕ) (a : LDataAnswer) (e : Refusal) (r : View) → a ≡ LDataAnswer.Refused e → LDataFrame.DataViewInPromise c s a r → Parts.told r ≡ refused 0 e
+pub ldata-frame-data-number : (c : Counting) (s : List ℕ) (a : LDataAnswer) (e : Fault) (r : View) → a ≡ LDataAnswer.Refused e → LDataFrame.DataViewInPromise c s a r → Parts.told r ≡ refused 0 e
 ldata-frame-data-number = LDataFrameLaws.view-none
 
 -- borrowed::data_view
@@ -547,11 +548,11 @@ pub ldata-frame-data-view : (s : List ℕ) (a : LDataAnswer) (r : View) → LDat
 ldata-frame-data-view = ldata-frame-data-view-in Crate
 
 -- borrowed::data_in_count
-pub ldata-frame-data-in-count : (c : Counting) (s r : List ℕ) (e : Refusal) → LData.ParseInPromise c s (LDataAnswer.Refused e) → LDataFrame.DataInCountPromise c s r → r ≡ []
+pub ldata-frame-data-in-count : (c : Counting) (s r : List ℕ) (e : Fault) → LData.ParseInPromise c s (LDataAnswer.Refused e) → LDataFrame.DataInCountPromise c s r → r ≡ []
 ldata-frame-data-in-count c s r e p q = q ∙ LDataFrameLaws.refused-data c s e p
 
 -- borrowed::data_in
-pub ldata-frame-data-in : (s r : List ℕ) (e : Refusal) → LData.ParsePromise s (LDataAnswer.Refused e) → LDataFrame.DataInPromise s r → r ≡ []
+pub ldata-frame-data-in : (s r : List ℕ) (e : Fault) → LData.ParsePromise s (LDataAnswer.Refused e) → LDataFrame.DataInPromise s r → r ≡ []
 ldata-frame-data-in = ldata-frame-data-in-count Crate
 
 -- ---- tunnel_image
@@ -832,6 +833,7 @@ knx-table-datagram-standard bytes before image = knx-table-calls image (Datagram
 -- digits::hex_digit
 -- digits::hex4
 -- replay::refused
+-- replay::located
 -- replay::few
 -- replay::flag
 -- replay::moved

@@ -1,7 +1,6 @@
 -- Demand 2 as predicates over any parser and any builder, and that ours have them. A parser is what it tells of each byte string; a builder is what it tells and what its buffer holds afterwards.
 use Prim.Native.Nat.{ℕ, _+_, _≤_}
-use native.Mathlib.Omega.{arith}
-use mathlib.Core.Path.{_≡_, refl, sym, ap, _∙_, subst}
+use mathlib.Core.Path.{_≡_, sym, ap, _∙_, subst}
 use mathlib.Core.List.{List, [], _∷_, _++_}
 use lib.ListN.{length, take, drop, getD}
 use lib.Seq.{drop-append-seam}
@@ -37,7 +36,6 @@ use Rattle.ldata.specs.CountLaws.{lawful}
 use Rattle.ldata.specs.LData as LData
 use Rattle.ldata.specs.LDataLaws as LDataLaws
 use Rattle.ldata.specs.Builder as LDataBuilder
-use Rattle.ldata.specs.BuilderLaws as LDataBuilderLaws
 use Rattle.ldata.specs.RoundTrip as LDataRoundTrip
 use Rattle.ldata.specs.declared.count.Counting.{Counting}
 use Rattle.ldata.specs.declared.count.Counting.the-variants.{Crate}
@@ -125,19 +123,19 @@ HasLayout {A} layout tells size parse = (s : List ℕ) (a : A) → Bytes s → t
 abbrev pub header : KnxnetIpHeader → Told
 header h = Header.told (HeaderAnswer.Header h)
 
-pub header-reads-back : ReadsBack HeaderLaws.Proper Header.layout header Header.parseBy01
+pub header-reads-back : ReadsBack HeaderLaws.Proper Header.layout header Header.parseWhere
 header-reads-back = HeaderLaws.reads-back
 
-pub header-has-layout : HasLayout Header.layout header 6 Header.parseBy01
+pub header-has-layout : HasLayout Header.layout header 6 Header.parseWhere
 header-has-layout = HeaderLaws.has-layout
 
 abbrev pub hpai : Hpai → Told
 hpai h = Hpai.told (HpaiLaws.accepted h)
 
-pub hpai-reads-back : ReadsBack HpaiLaws.Proper Hpai.layout hpai Hpai.parseBy01
+pub hpai-reads-back : ReadsBack HpaiLaws.Proper Hpai.layout hpai Hpai.parseWhere
 hpai-reads-back = HpaiLaws.reads-back
 
-pub hpai-has-layout : HasLayout Hpai.layout hpai 8 Hpai.parseBy01
+pub hpai-has-layout : HasLayout Hpai.layout hpai 8 Hpai.parseWhere
 hpai-has-layout = HpaiLaws.has-layout
 
 -- ---- builders
@@ -170,13 +168,13 @@ ldataBytes c x = LDataBuilder.frameIn (countBy c) (x .0) (x .1)
 abbrev pub ldata : Counting → LDataBuilder × List ℕ → Told
 ldata c x = LData.told (LDataAnswer.Frame (LDataRoundTrip.builtIn (countBy c) (x .0) (length (x .1))))
 
-pub ldata-reads-back : (c : Counting) → ReadsBack (ldataProper c) (ldataBytes c) (ldata c) (LData.parseBy01 (countBy c))
+pub ldata-reads-back : (c : Counting) → ReadsBack (ldataProper c) (ldataBytes c) (ldata c) (LData.parseWhere (countBy c))
 ldata-reads-back c x rest p =
     LDataRoundTrip.comes-back (countBy c) (lawful c) (x .0) (x .1) rest (LDataRoundTrip.sizeIn (countBy c) (x .0) (length (x .1))) p .fields-back
 
 -- wherever the document lets it, an L_Data builder counts what it wrote, and fields, data and later bytes come back
 pub record LDataBack (c : Counting) (b : LDataBuilder) (d buf after : List ℕ) : Type 0 where
-  pub fields-back : LData.parseBy01 (countBy c) after ≡ ldata c (b, d)
+  pub fields-back : LData.parseWhere (countBy c) after ≡ ldata c (b, d)
   pub data-back : shown after (LData.dataBy01 (countBy c) (LDataRoundTrip.builtIn (countBy c) b (length d)) after) ≡ d
   pub rest-back : drop (LDataRoundTrip.sizeIn (countBy c) b (length d)) after ≡ drop (LDataRoundTrip.sizeIn (countBy c) b (length d)) buf
 
@@ -263,14 +261,14 @@ pub connection-header-has-layout : (s : List ℕ) (h : ConnectionHeader) → Byt
 connection-header-has-layout = ConnectionLaws.has-layout
 
 pub connect-response-reads-back : (c : ConnectResponse) (rest : List ℕ) → ConnectResponse.Arrays c → c .«data_endpoint» .«structure_length» ≡ 8
-    → ConnectResponse.parseBy01 (ConnectResponse.layout c ++ rest) ≡ ConnectResponse.told (ConnectResponseLaws.accepted c)
+    → ConnectResponse.parseWhere (ConnectResponse.layout c ++ rest) ≡ ConnectResponse.told (ConnectResponseLaws.accepted c)
 connect-response-reads-back = ConnectResponseLaws.reads-back
 
 pub connect-response-has-layout : (s : List ℕ) (c : ConnectResponse) → Bytes s → ConnectResponse.ParsePromise s (ConnectResponseLaws.accepted c) → take 14 s ≡ ConnectResponse.layout c
 connect-response-has-layout = ConnectResponseLaws.has-layout
 
 -- connection state and disconnect responses
-pub status-has-layout : (s : List ℕ) (channel code : ℕ) → Bytes s → Channel.status channel code ≡ Channel.statusBy01 s → take 2 s ≡ put Channel.statusFields (channel ∷ code ∷ [])
+pub status-has-layout : (s : List ℕ) (channel code : ℕ) → Bytes s → Channel.status channel code ≡ Channel.statusWhere s → take 2 s ≡ put Channel.statusFields (channel ∷ code ∷ [])
 status-has-layout = ChannelLaws.has-layout
 
 -- but for the two bytes of the connection header that are not looked at
@@ -388,5 +386,6 @@ pub border-ldata : (s : List ℕ) (r : KnxLData) (f : CEMIFrame) (g : LDataField
           ++ CemiLData.sixBitIn (isData (g .tpci)) (getD (Cemi.serviceInfo s) 8 0) ∷ [];
       start = 2 + Cemi.infoLength s + v .start;
       end = 2 + Cemi.infoLength s + v .end;
+      offset = 0;
     }
 border-ldata = CemiLDataLaws.ldata-as Crate

@@ -1,4 +1,4 @@
--- Demand 3, of the compiled table: tunnels in one table do not disturb each other. Calls carry raw datagrams and whole lent outputs; whose call it is, is computed from the bytes; a trace has number, what is said, count, view, the whole output, and what is left of the channel.
+-- Demand 3, of the compiled table: tunnels in one table do not disturb each other. Calls carry raw datagrams and whole lent outputs; whose call it is, is computed from the bytes; a trace has number, what is said, count, view, offset, the whole output, and what is left of the channel.
 use Prim.Native.Nat.{ℕ, _+_, _≤_}
 use native.Mathlib.Omega.{arith}
 use mathlib.Core.Path.{_≡_, refl, sym, ap, subst, _∙_}

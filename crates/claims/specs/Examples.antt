@@ -72,7 +72,7 @@ is-open = refl
 
 -- what the table gives 21: the view 10 to 12, eleven bytes written, the twelfth as it was; and nothing after it is closed
 pub trace : tableTrace chan (tableOf kind 8) (names chan 21) 21 (reached chan (tableOf kind 8) before) calls
-    ≡ ((record { number = 0; values = saidOf Deliver ∷ 11 ∷ []; start = 10; end = 12 }, acked), at 1 0)
+    ≡ ((record { number = 0; values = saidOf Deliver ∷ 11 ∷ []; start = 10; end = 12; offset = 0 }, acked), at 1 0)
     ∷ ((done (saidOf Duplicate ∷ 11 ∷ []), acked), at 1 0)
     ∷ (refuses BufferTooSmall [], at 1 0)
     ∷ ((done (saidOf Nothing ∷ 12 ∷ []), 0x06 ∷ 0x10 ∷ 0x04 ∷ 0x20 ∷ 0x00 ∷ 0x0C ∷ 0x04 ∷ 21 ∷ 0 ∷ 0x00 ∷ 0x11 ∷ 0x00 ∷ []), some (record { r = 1; s = 0; w = First }))

@@ -163,10 +163,10 @@ turns = to-no-room ++ WriteOut ∷ ScanOn ∷ []
 
 pub record InTurns : Type 0 where
   pub no-room : unread (inspecting 5 unfinished (replicate 12 0) to-no-room) ≡ 0x00 ∷ 0x06 ∷ second ++ 0x00 ∷ []
-  pub first-written : inspecting 5 unfinished (replicate 12 0) turns .written ≡ headingOf true ++ lineOf 1 (record { number = 0; service = 0x0421; total = 11 })
-  pub second-gathered : gathered (inspecting 5 unfinished (replicate 12 0) turns) ≡ lineOf 2 (record { number = 2; service = 0; total = 0 })
+  pub first-written : inspecting 5 unfinished (replicate 12 0) turns .written ≡ headingOf true ++ lineOf 1 (record { number = 0; service = 0x0421; total = 11; offset = 0 })
+  pub second-gathered : gathered (inspecting 5 unfinished (replicate 12 0) turns) ≡ lineOf 2 (record { number = 2; service = 0; total = 0; offset = 4 })
   pub all-output : output (inspecting 5 unfinished (replicate 12 0) turns) ≡ printedBy01 unfinished
-  pub all-lines : printedBy01 unfinished ≡ headingOf true ++ lineOf 1 (record { number = 0; service = 0x0421; total = 11 }) ++ lineOf 2 (record { number = 2; service = 0; total = 0 }) ++ endingOf 2 true
+  pub all-lines : printedBy01 unfinished ≡ headingOf true ++ lineOf 1 (record { number = 0; service = 0x0421; total = 11; offset = 0 }) ++ lineOf 2 (record { number = 2; service = 0; total = 0; offset = 4 }) ++ endingOf 2 true
 
 pub in-turns : InTurns
 unfolding recordsOf unfinishedOf digitsOf scanOf

@@ -62,9 +62,9 @@ pub record Endpoints : Type 0 where
   pub header-encode : Header.EncodePromise header nines (Bytes 6) (headerBytes ++ 9 ∷ 9 ∷ 9 ∷ [])
   pub body-length : Header.BodyLengthPromise header 527
   pub body-length-below : Header.BodyLengthPromise (record { «header_length» = 6; «protocol_version» = 0x10; «service_type» = TunnellingRequest; «total_length» = 5 }) 0
-  pub hpai-parse : Hpai.ParsePromise (endpointBytes ++ 0xEE ∷ []) (record { number = 0; hpai = endpoint })
+  pub hpai-parse : Hpai.ParsePromise (endpointBytes ++ 0xEE ∷ []) (record { number = 0; hpai = endpoint; offset = 0 })
   pub hpai-encode : Hpai.EncodePromise endpoint nines (Bytes 8) (endpointBytes ++ 9 ∷ [])
-  pub hpai-protocol : Hpai.ParsePromise otherBytes (record { number = 0; hpai = other })
+  pub hpai-protocol : Hpai.ParsePromise otherBytes (record { number = 0; hpai = other; offset = 0 })
   pub hpai-protocol-encode : Hpai.EncodePromise other nines (Bytes 8) (otherBytes ++ 9 ∷ [])
   -- a tunnel (4) on the link layer (2); the reserved byte is not looked at
   pub cri-encode : Cri.EncodePromise (record { «connection_type» = 4; «knx_layer» = 2 }) nines (Bytes 4) (0x04 ∷ 0x04 ∷ 0x02 ∷ 0x00 ∷ 9 ∷ 9 ∷ 9 ∷ 9 ∷ 9 ∷ [])
@@ -110,6 +110,7 @@ pub record Connecting : Type 0 where
       (record {
         number = 0;
         response = record { «channel_id» = 0x15; status = 0; «data_endpoint» = endpoint; crd = 0x04 ∷ 0x05 ∷ 0x11 ∷ 0x0A ∷ [] };
+        offset = 0;
       })
 
 pub connecting : Connecting

@@ -2,6 +2,7 @@
 use Prim.Native.Nat.{ℕ}
 use mathlib.Core.Path.{_≡_, refl}
 use mathlib.Core.Bool.{true, false}
+use Rattle.wire.specs.Told.{nowhere}
 use Rattle.wire.specs.Refusals.{NumberPromise}
 use Rattle.wire.specs.declared.refusals.Refusal.the-variants.{BufferTooSmall, InvalidFrame, UnsupportedVersion, UnsupportedServiceType, PayloadTooLarge, InvalidMessageCode, AlreadyOpen, TableFull, NotOpen, AwaitsAck, AwaitsNothing, NotForTunnels, FieldOutOfRange, InvalidAdditionalInfo}
 use Rattle.constants.specs.Services as Services
@@ -77,8 +78,8 @@ pub record ServiceNames : Type 0 where
   pub disconnect-response : Services.FromPromise 0x020A (ServiceAnswer.Service ServiceType.DisconnectResponse)
   pub tunnelling-request : Services.FromPromise 0x0420 (ServiceAnswer.Service ServiceType.TunnellingRequest)
   pub tunnelling-ack : Services.FromPromise 0x0421 (ServiceAnswer.Service ServiceType.TunnellingAck)
-  pub search-request : Services.FromPromise 0x0201 (ServiceAnswer.Refused UnsupportedServiceType)
-  pub routing-indication : Services.FromPromise 0x0530 (ServiceAnswer.Refused UnsupportedServiceType)
+  pub search-request : Services.FromPromise 0x0201 (ServiceAnswer.Refused (nowhere UnsupportedServiceType))
+  pub routing-indication : Services.FromPromise 0x0530 (ServiceAnswer.Refused (nowhere UnsupportedServiceType))
 
 pub services : ServiceNames
 services = record {
@@ -102,7 +103,7 @@ pub record MessageCodeNames : Type 0 where
   pub lraw-ind : MessageCodes.FromPromise 0x2D (CEMIMessageCodeAnswer.Code CEMIMessageCode.LRawInd)
   pub lraw-con : MessageCodes.FromPromise 0x2F (CEMIMessageCodeAnswer.Code CEMIMessageCode.LRawCon)
   pub lbusmon-ind : MessageCodes.FromPromise 0x2B (CEMIMessageCodeAnswer.Code CEMIMessageCode.LBusmonInd)
-  pub poll-data-req : MessageCodes.FromPromise 0x13 (CEMIMessageCodeAnswer.Refused InvalidMessageCode)
+  pub poll-data-req : MessageCodes.FromPromise 0x13 (CEMIMessageCodeAnswer.Refused (nowhere InvalidMessageCode))
   -- L_Data is asked of the name
   pub is-req : Cemi.IsLDataPromise (record { «message_code» = CEMIMessageCode.LDataReq }) true
   pub is-ind : Cemi.IsLDataPromise (record { «message_code» = CEMIMessageCode.LDataInd }) true

@@ -127,7 +127,7 @@ pub record Order : Type 0 where
   pub info-before-ldata : inCemi LDataInd (0x29 ∷ 0x00 ∷ replicate 8 0) ≡ 1
   pub record-decides : inCemi LRawInd (0x29 ∷ 0x00 ∷ nineBytes 2 0x00) ≡ 6
   pub slice-first : inCemi LRawInd (0x13 ∷ []) ≡ 1
-  pub info-length-code : Cemi.InfoLengthPromise (0x13 ∷ 0x05 ∷ []) (InfoLengthAnswer.Refused InvalidMessageCode)
+  pub info-length-code : Cemi.InfoLengthPromise (0x13 ∷ 0x05 ∷ []) (InfoLengthAnswer.Refused (record { why = InvalidMessageCode; at = 0 }))
   pub info-length-known : Cemi.InfoLengthPromise (0x2D ∷ 0x05 ∷ []) (InfoLengthAnswer.Length 5)
   -- L_Data: nine bytes for control packets too; data needs L of 2, control packets of 1
   pub control-of-8 : asLData (0x94 ∷ 0xE0 ∷ 0x11 ∷ 0x05 ∷ 0x08 ∷ 0x03 ∷ 0x00 ∷ 0x80 ∷ []) ≡ 1

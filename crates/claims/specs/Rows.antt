@@ -23,7 +23,7 @@ use Rattle.tunnel.specs.declared.rules.Wait.{Wait}
 use Rattle.tunnel.specs.declared.rules.Said.the-variants.{Deliver}
 use Rattle.tunnel_model.specs.Store.{step}
 use Rattle.tunnel.specs.Numbers.{saidOf}
-use Rattle.tunnel_model.specs.Calls.{Datagram, refuses}
+use Rattle.tunnel_model.specs.Calls.{Datagram, refusesAt}
 use Rattle.tunnel_model.specs.Lone.{lone}
 use Rattle.tunnel_model.specs.Table.{chan, storeOf}
 use Rattle.tunnel_table.specs.Places.{kind}
@@ -76,7 +76,7 @@ pub record P : Type 0 where
   pub total-as-header : asHeader (0x06 ∷ 0x10 ∷ 0x04 ∷ 0x20 ∷ 0x00 ∷ 0x05 ∷ []) ≡ 0
   pub bare-frame : Frame.parseBy01 bare ≡ Frame.told (Frame (built TunnellingRequest []))
   pub bare-body : Frame.bodyBy01 (built TunnellingRequest []) bare ≡ viewed 6 6
-  pub bare-datagram : (l : List Place) (out : List ℕ) → step chan (storeOf kind) l (Datagram bare out) ≡ (refuses BufferTooSmall out, l)
+  pub bare-datagram : (l : List Place) (out : List ℕ) → step chan (storeOf kind) l (Datagram bare out) ≡ (refusesAt (record { why = BufferTooSmall; at = 6 }) out, l)
   pub write-2A : asLData (ldata 3 (0x00 ∷ 0x80 ∷ 0x2A ∷ [])) ≡ LData.told (LDataAnswer.Frame (groupWrite 3))
   pub write-2A-data : dataIn (groupWrite 3) (ldata 3 (0x00 ∷ 0x80 ∷ 0x2A ∷ [])) ≡ 0x2A ∷ []
   pub write-L4 : asLData (ldata 4 (0x00 ∷ 0x80 ∷ 0x2A ∷ [])) .number ≡ 2
@@ -86,7 +86,7 @@ pub record P : Type 0 where
   pub write-L2-six : SixBitPromise (getD (ldata 2 (0x00 ∷ 0x81 ∷ [])) 8 0) 1
   pub apci-02-C0 : apciOf (codeIn 0x02 0xC0) ≡ Unknown 0x2C0
   pub r-255 : (s : ℕ) (w : Wait) → lone (record { r = 255; s = s; w = w }) (Datagram (request 21 255) room)
-      ≡ ((record { number = 0; values = saidOf Deliver ∷ 11 ∷ []; start = 10; end = 12 }, acked), some (record { r = 0; s = s; w = w }))
+      ≡ ((record { number = 0; values = saidOf Deliver ∷ 11 ∷ []; start = 10; end = 12; offset = 0 }, acked), some (record { r = 0; s = s; w = w }))
 
 pub rows : P
 rows = record {

@@ -98,19 +98,20 @@ pub border : (s : List ℕ) (r : KnxLData) (f : CEMIFrame) (g : LDataFields) (v 
           ++ CemiLData.sixBitIn (isData (g .tpci)) (getD (Cemi.serviceInfo s) 8 0) ∷ [];
       start = 2 + Cemi.infoLength s + v .start;
       end = 2 + Cemi.infoLength s + v .end;
+      offset = 0;
     }
 border = CemiLDataLaws.ldata-as Standard
 
 -- ---- rows: frames
 
-abbrev indication : CEMIFrame
+abbrev pub indication : CEMIFrame
 indication = record { «message_code» = LDataInd }
 
 -- from 1.1.5 to the group 1/0/3: L, TPCI and what follows
-abbrev toGroup : ℕ → List ℕ → List ℕ
+abbrev pub toGroup : ℕ → List ℕ → List ℕ
 toGroup l rest = 0xBC ∷ 0xE0 ∷ 0x11 ∷ 0x05 ∷ 0x08 ∷ 0x03 ∷ l ∷ rest
 
-abbrev groupWrite : ℕ → LDataFields
+abbrev pub groupWrite : ℕ → LDataFields
 groupWrite l = record {
   ctrl1 = record { raw = 0xBC };
   ctrl2 = record { raw = 0xE0 };
@@ -146,7 +147,7 @@ inCemi f s = Cemi.asLDataIn standardCount f s .number
 pub record Frames : Type 0 where
   -- a switch, and 21.00 degrees, in their cEMI frames
   pub switch : Cemi.AsLDataInPromise Standard indication (0x29 ∷ 0x00 ∷ toGroup 1 (0x00 ∷ 0x81 ∷ [])) (LDataAnswer.Frame (groupWrite 1))
-  pub switch-data : LData.DataInPromise Standard (groupWrite 1) (toGroup 1 (0x00 ∷ 0x81 ∷ [])) (record { number = 0; start = 9; end = 9 })
+  pub switch-data : LData.DataInPromise Standard (groupWrite 1) (toGroup 1 (0x00 ∷ 0x81 ∷ [])) (record { number = 0; start = 9; end = 9; offset = 0 })
   pub switch-six : Application.SixBitPromise 0x81 1
   pub reading : Cemi.AsLDataInPromise Standard indication (0x29 ∷ 0x00 ∷ toGroup 3 (0x00 ∷ 0x80 ∷ 0x0C ∷ 0x1A ∷ [])) (LDataAnswer.Frame (groupWrite 3))
   pub reading-data : LData.DataPartInPromise Standard (groupWrite 3) (toGroup 3 (0x00 ∷ 0x80 ∷ 0x0C ∷ 0x1A ∷ [])) (0x0C ∷ 0x1A ∷ [])

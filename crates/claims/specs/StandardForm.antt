@@ -8,10 +8,11 @@ use Rattle.wire.specs.Told.{Told, done, refused}
 use Rattle.wire.specs.Writing.{tells}
 use Rattle.wire.specs.Layout.{byte, put}
 use Rattle.wire.specs.LayoutLaws.{Bytes}
-use Rattle.wire.specs.Format.{readBy01}
+use Rattle.wire.specs.Format.{readWhere}
 use Rattle.wire.specs.Parts.{partOf}
 use Rattle.wire.specs.Places.{place}
-use Rattle.wire.specs.declared.refusals.Refusal.the-variants.{BufferTooSmall}
+use Rattle.wire.specs.declared.refusals.Fault.{Fault}
+use Rattle.wire.specs.declared.refusals.Refusal.the-variants.{BufferTooSmall, InvalidFrame}
 use Rattle.wire.specs.declared.refusals.Written.the-variants as Written
 use Rattle.constants.specs.Constants.{headerSize}
 use Rattle.constants.specs.declared.services.ServiceType.the-variants as ServiceType
@@ -90,17 +91,17 @@ answer-heard = Exchange.ack-heard
 -- ---- a connect response in KNX's form
 
 -- with status 0 it is 01's; with another it is channel and status, and zeros, whatever follows
-pub response-as-01 : (s : List ℕ) → getD s 1 0 ≡ 0 → ConnectResponse.parseByKnx s ≡ ConnectResponse.parseBy01 s
+pub response-as-01 : (s : List ℕ) → getD s 1 0 ≡ 0 → ConnectResponse.parseStandardWhere s ≡ ConnectResponse.parseWhere s
 response-as-01 = ConnectResponseLaws.as-01
 
-pub response-refuses : (s : List ℕ) → (getD s 1 0 ≡ 0 → ⊥) → ConnectResponse.parseByKnx s ≡ done (ConnectResponse.bare (getD s 0 0) (getD s 1 0))
+pub response-refuses : (s : List ℕ) → (getD s 1 0 ≡ 0 → ⊥) → ConnectResponse.parseStandardWhere s ≡ done (ConnectResponse.bare (getD s 0 0) (getD s 1 0))
 response-refuses = ConnectResponseLaws.refusing
 
 pub response-reads-back : (c : ConnectResponse) (rest : List ℕ) → ConnectResponse.Arrays c → c .«data_endpoint» .«structure_length» ≡ 8 → c .status ≡ 0
-    → ConnectResponse.parseByKnx (ConnectResponse.layout c ++ rest) ≡ ConnectResponse.told (ConnectResponseLaws.accepted c)
+    → ConnectResponse.parseStandardWhere (ConnectResponse.layout c ++ rest) ≡ ConnectResponse.told (ConnectResponseLaws.accepted c)
 response-reads-back = ConnectResponseLaws.knx-back
 
-pub refusal-reads-back : (channel status : ℕ) (rest : List ℕ) → (status ≡ 0 → ⊥) → ConnectResponse.parseByKnx (put (byte ∷ byte ∷ []) (channel ∷ status ∷ []) ++ rest) ≡ done (ConnectResponse.bare channel status)
+pub refusal-reads-back : (channel status : ℕ) (rest : List ℕ) → (status ≡ 0 → ⊥) → ConnectResponse.parseStandardWhere (put (byte ∷ byte ∷ []) (channel ∷ status ∷ []) ++ rest) ≡ done (ConnectResponse.bare channel status)
 refusal-reads-back = ConnectResponseLaws.bare-back
 
 pub response-has-layout : (s : List ℕ) (c : ConnectResponse) → Bytes s → ConnectResponse.ParseStandardPromise s (ConnectResponseLaws.accepted c) → c .status ≡ 0 → take 14 s ≡ ConnectResponse.layout c
@@ -141,6 +142,10 @@ ackBy01 b n status = 0x06 ∷ 0x10 ∷ 0x04 ∷ 0x21 ∷ 0x00 ∷ 0x0B ∷ 0x04 
 abbrev reads : Form → List ℕ → Told
 reads f s = AckForm.parsed (formBy f) s
 
+-- too short, and where the part ends
+abbrev short : ℕ → Fault
+short end = record { why = BufferTooSmall; at = end }
+
 -- what building into a buffer of m bytes tells
 abbrev builds : Form → ℕ → ℕ
 builds f m = tells (AckForm.buildChecks (formBy f) m) [] .number
@@ -154,10 +159,10 @@ pub record Acks : Type 0 where
   pub room-10 : builds Standard 10 ≡ 0
   pub room-10-by-01 : builds Crate 10 ≡ 1
   -- a body of four bytes or more, the fourth the status; by 01 of five, the fifth
-  pub three : reads Standard (0x04 ∷ 0x15 ∷ 0x07 ∷ []) ≡ refused 3 BufferTooSmall
+  pub three : reads Standard (0x04 ∷ 0x15 ∷ 0x07 ∷ []) ≡ refused 3 (short 3)
   pub four : reads Standard (0x04 ∷ 0x15 ∷ 0x07 ∷ 0x2A ∷ []) ≡ done (0x15 ∷ 7 ∷ 0x2A ∷ [])
   pub four-0 : reads Standard (0x04 ∷ 0x15 ∷ 0x07 ∷ 0x00 ∷ []) ≡ done (0x15 ∷ 7 ∷ 0 ∷ [])
-  pub four-by-01 : reads Crate (0x04 ∷ 0x15 ∷ 0x07 ∷ 0x2A ∷ []) ≡ refused 3 BufferTooSmall
+  pub four-by-01 : reads Crate (0x04 ∷ 0x15 ∷ 0x07 ∷ 0x2A ∷ []) ≡ refused 3 (short 4)
   pub five : reads Standard (0x04 ∷ 0x15 ∷ 0x07 ∷ 0x00 ∷ 0x2A ∷ []) ≡ done (0x15 ∷ 7 ∷ 0 ∷ [])
   pub five-by-01 : reads Crate (0x04 ∷ 0x15 ∷ 0x07 ∷ 0x00 ∷ 0x2A ∷ []) ≡ done (0x15 ∷ 7 ∷ 0x2A ∷ [])
   -- a status in KNX's place, and 0 in the crate's
@@ -199,12 +204,12 @@ pub record Datagrams : Type 0 where
   pub names-nobody : named (Datagram (knxAck 21 0 0) []) ≡ none
   pub request-either : heardIn Standard (request 21 7) ≡ Request 21 7 12
   pub heard-knx : heardIn Standard (knxAck 21 7 0x29) ≡ Ack 21 7 0x29
-  pub heard-by-01 : heardIn Crate (knxAck 21 7 0x29) ≡ Refused BufferTooSmall
+  pub heard-by-01 : heardIn Crate (knxAck 21 7 0x29) ≡ Refused (short 10)
   -- one of eleven bytes is read by its fourth byte
   pub heard-eleven : heardIn Standard (ackBy01 21 7 0x29) ≡ Ack 21 7 0
   -- deliver and duplicate: ten bytes are written, and ten are enough
   pub deliver : alone Idle (DatagramIn Standard (request 21 0) tenNines)
-      ≡ ((record { number = 0; values = saidOf Said.Deliver ∷ 10 ∷ []; start = 10; end = 12 }, knxAck 21 0 0), some (record { r = 1; s = 0; w = Idle }))
+      ≡ ((record { number = 0; values = saidOf Said.Deliver ∷ 10 ∷ []; start = 10; end = 12; offset = 0 }, knxAck 21 0 0), some (record { r = 1; s = 0; w = Idle }))
   pub deliver-short : alone Idle (DatagramIn Standard (request 21 0) (replicate 9 9)) ≡ (refuses BufferTooSmall (replicate 9 9), some (record { r = 0; s = 0; w = Idle }))
   pub deliver-by-01 : alone Idle (Datagram (request 21 0) tenNines) ≡ (refuses BufferTooSmall tenNines, some (record { r = 0; s = 0; w = Idle }))
   pub duplicate : alone Idle (DatagramIn Standard (request 21 255) room) ≡ ((done (saidOf Said.Duplicate ∷ 10 ∷ []), knxAck 21 255 0 ++ 9 ∷ 9 ∷ []), some (record { r = 0; s = 0; w = Idle }))
@@ -253,9 +258,9 @@ pub record Mixed : Type 0 where
   pub mine : callsOf chan (names chan 21) mixed
       ≡ Datagram (request 21 0) room ∷ DatagramIn Standard (request 21 0) room ∷ DatagramIn Standard (request 21 1) tenNines ∷ Send 21 [] room ∷ DatagramIn Standard (knxAck 21 0 0) [] ∷ []
   pub seen-of-21 : tableTrace chan (tableOf kind 8) (names chan 21) 21 (reached chan (tableOf kind 8) (Open 21 ∷ Open 7 ∷ [])) mixed
-      ≡ ((record { number = 0; values = saidOf Said.Deliver ∷ 11 ∷ []; start = 10; end = 12 }, ackBy01 21 0 0 ++ 9 ∷ []), some (record { r = 1; s = 0; w = Idle }))
+      ≡ ((record { number = 0; values = saidOf Said.Deliver ∷ 11 ∷ []; start = 10; end = 12; offset = 0 }, ackBy01 21 0 0 ++ 9 ∷ []), some (record { r = 1; s = 0; w = Idle }))
       ∷ ((done (saidOf Said.Duplicate ∷ 10 ∷ []), knxAck 21 0 0 ++ 9 ∷ 9 ∷ []), some (record { r = 1; s = 0; w = Idle }))
-      ∷ ((record { number = 0; values = saidOf Said.Deliver ∷ 10 ∷ []; start = 10; end = 12 }, knxAck 21 1 0), some (record { r = 2; s = 0; w = Idle }))
+      ∷ ((record { number = 0; values = saidOf Said.Deliver ∷ 10 ∷ []; start = 10; end = 12; offset = 0 }, knxAck 21 1 0), some (record { r = 2; s = 0; w = Idle }))
       ∷ ((done (saidOf Said.Nothing ∷ 10 ∷ []), 0x06 ∷ 0x10 ∷ 0x04 ∷ 0x20 ∷ 0x00 ∷ 0x0A ∷ 0x04 ∷ 21 ∷ 0 ∷ 0x00 ∷ 9 ∷ 9 ∷ []), some (record { r = 2; s = 0; w = First }))
       ∷ (says Said.Sent [], some (record { r = 2; s = 1; w = Idle }))
       ∷ []
@@ -270,14 +275,14 @@ abbrev endpoint : ℕ → List ℕ
 endpoint n = n ∷ 0x01 ∷ 192 ∷ 168 ∷ 1 ∷ 100 ∷ 0x0E ∷ 0x57 ∷ []
 
 abbrev responds : List ℕ → Told
-responds s = ConnectResponse.parseByKnx s
+responds s = ConnectResponse.parseStandardWhere s
 
 -- the body of a disconnect request: the reserved byte, the endpoint
 abbrev asksToEnd : ℕ → List ℕ → List ℕ
 asksToEnd reserved h = 0x15 ∷ reserved ∷ h
 
-abbrev ends : List ℕ → ℕ
-ends s = readBy01 Channel.requestFormat s .number
+abbrev ends : List ℕ → Told
+ends s = readWhere Channel.requestFormat s
 
 abbrev owed : ℕ → DisconnectResponse
 owed status = record { «channel_id» = 0x15; status = status }
@@ -285,23 +290,23 @@ owed status = record { «channel_id» = 0x15; status = status }
 pub record Sessions : Type 0 where
   -- a gateway's refusal: no more connections
   pub no-more : responds (0x00 ∷ 0x24 ∷ []) ≡ done (0 ∷ 0x24 ∷ replicate 11 0)
-  pub no-more-by-01 : ConnectResponse.parseBy01 (0x00 ∷ 0x24 ∷ []) ≡ refused 13 BufferTooSmall
+  pub no-more-by-01 : ConnectResponse.parseWhere (0x00 ∷ 0x24 ∷ []) ≡ refused 13 (short 2)
   -- fewer than 2 (1); status 0 with fewer than 14 (1), then the endpoint (2); with another status nothing more is asked
-  pub nothing : responds [] ≡ refused 13 BufferTooSmall
-  pub channel-alone : responds (0x15 ∷ []) ≡ refused 13 BufferTooSmall
-  pub ok-of-2 : responds (0x15 ∷ 0x00 ∷ []) ≡ refused 13 BufferTooSmall
-  pub ok-of-13 : responds (0x15 ∷ 0x00 ∷ endpoint 8 ++ 0x04 ∷ 0x04 ∷ 0x11 ∷ []) ≡ refused 13 BufferTooSmall
+  pub nothing : responds [] ≡ refused 13 (short 0)
+  pub channel-alone : responds (0x15 ∷ []) ≡ refused 13 (short 1)
+  pub ok-of-2 : responds (0x15 ∷ 0x00 ∷ []) ≡ refused 13 (short 2)
+  pub ok-of-13 : responds (0x15 ∷ 0x00 ∷ endpoint 8 ++ 0x04 ∷ 0x04 ∷ 0x11 ∷ []) ≡ refused 13 (short 13)
   pub ok-of-14 : responds (0x15 ∷ 0x00 ∷ endpoint 8 ++ 0x04 ∷ 0x04 ∷ 0x11 ∷ 0x05 ∷ []) ≡ done (0x15 ∷ 0 ∷ 8 ∷ 1 ∷ 192 ∷ 168 ∷ 1 ∷ 100 ∷ 3671 ∷ 0x04 ∷ 0x04 ∷ 0x11 ∷ 0x05 ∷ [])
-  pub ok-endpoint : responds (0x15 ∷ 0x00 ∷ endpoint 7 ++ 0x04 ∷ 0x04 ∷ 0x11 ∷ 0x05 ∷ []) .number ≡ 2
+  pub ok-endpoint : responds (0x15 ∷ 0x00 ∷ endpoint 7 ++ 0x04 ∷ 0x04 ∷ 0x11 ∷ 0x05 ∷ []) ≡ refused 13 (record { why = InvalidFrame; at = 2 })
   pub refused-endpoint : responds (0x15 ∷ 0x22 ∷ endpoint 7 ++ 0x04 ∷ 0x04 ∷ 0x11 ∷ 0x05 ∷ []) ≡ done (0x15 ∷ 0x22 ∷ replicate 11 0)
   pub status-is-asked-second : place (ConnectResponse.knxChecks 2 (0x15 ∷ 0x00 ∷ [])) ≡ 1
   -- 1.1.5
   pub own-address : ConnectResponse.IndividualAddressPromise (record { «channel_id» = 0x15; status = 0; «data_endpoint» = record { «structure_length» = 8; «host_protocol» = 1; «ip_address» = 192 ∷ 168 ∷ 1 ∷ 100 ∷ []; port = 3671 }; crd = 0x04 ∷ 0x04 ∷ 0x11 ∷ 0x05 ∷ [] }) (record { 0 = 0x1105 })
   -- a disconnect request: fewer than 10 (1), then the endpoint's length (2); the reserved byte is not looked at
-  pub ended : Channel.DisconnectRequestParsePromise (asksToEnd 0xFF (endpoint 8)) (record { number = 0; request = record { «channel_id» = 0x15; «control_endpoint» = record { «structure_length» = 8; «host_protocol» = 1; «ip_address» = 192 ∷ 168 ∷ 1 ∷ 100 ∷ []; port = 3671 } } })
-  pub ended-of-9 : ends (asksToEnd 0 (take 7 (endpoint 8))) ≡ 1
-  pub ended-length : ends (asksToEnd 0 (endpoint 9)) ≡ 2
-  pub ended-of-9-length : ends (asksToEnd 0 (take 7 (endpoint 9))) ≡ 1
+  pub ended : Channel.DisconnectRequestParsePromise (asksToEnd 0xFF (endpoint 8)) (record { number = 0; request = record { «channel_id» = 0x15; «control_endpoint» = record { «structure_length» = 8; «host_protocol» = 1; «ip_address» = 192 ∷ 168 ∷ 1 ∷ 100 ∷ []; port = 3671 } }; offset = 0 })
+  pub ended-of-9 : ends (asksToEnd 0 (take 7 (endpoint 8))) ≡ refused 8 (short 9)
+  pub ended-length : ends (asksToEnd 0 (endpoint 9)) ≡ refused 8 (record { why = InvalidFrame; at = 2 })
+  pub ended-of-9-length : ends (asksToEnd 0 (take 7 (endpoint 9))) ≡ refused 8 (short 9)
   -- the response that it is owed
   pub owed-built : Channel.DisconnectResponseBuildPromise (owed 0) room (Written.Bytes 8) (0x06 ∷ 0x10 ∷ 0x02 ∷ 0x0A ∷ 0x00 ∷ 0x08 ∷ 0x15 ∷ 0x00 ∷ 9 ∷ 9 ∷ 9 ∷ 9 ∷ [])
   pub owed-of-7 : tells (Channel.responseChecks 7) [] .number ≡ 1

@@ -13,7 +13,7 @@ use Rattle.tunnel.specs.declared.rules.Said.the-variants.{Repeat, GiveUp, Dupli
 use Rattle.tunnel_model.specs.Firsts.{isNone}
 use Rattle.tunnel_model.specs.Store.{step}
 use Rattle.tunnel.specs.Numbers.{saidOf}
-use Rattle.tunnel_model.specs.Calls.{Call, Open, Close, Timeout, Send, Datagram, Outcome, refuses, says}
+use Rattle.tunnel_model.specs.Calls.{Call, Open, Close, Timeout, Send, Datagram, Outcome, refusesAt, refuses, says}
 use Rattle.tunnel_model.specs.Lone.{lone}
 use Rattle.tunnel_model.specs.Table.{chan, storeOf, emptyOf}
 use Rattle.tunnel_table.specs.Places.{kind}
@@ -80,7 +80,7 @@ pub record TunnelRows : Type 0 where
   -- a channel that is not open: 9, and a filled output stays as it was
   pub close-closed : onEmpty (Close 21) ≡ 9
   pub timeout-closed : onEmpty (Timeout 21) ≡ 9
-  pub request-closed : on (emptyOf kind 8) (Datagram (request 21 0) room) .0 ≡ refuses NotOpen room
+  pub request-closed : on (emptyOf kind 8) (Datagram (request 21 0) room) .0 ≡ refusesAt (record { why = NotOpen; at = 7 }) room
   -- an id that stands twice means its first place: closed once, it is still open
   pub twice-closed : on twice (Close 21) .1 ≡ record { hold = Free } ∷ holding 21 ∷ []
   pub twice-still-open : on (on twice (Close 21) .1) (Open 21) .0 .0 .number ≡ 7

@@ -1097,6 +1097,10 @@ knx-table-datagram-standard bytes out image = CalledLaws.call-one image (Datagra
 pub replay-refused : One₂ Telling.RefusedPromise
 replay-refused why count r q = same
 
+-- replay::located
+pub replay-located : One₃ Telling.LocatedPromise
+replay-located t number at r q = same
+
 -- replay::few
 pub replay-few : One₂ Telling.FewPromise
 replay-few count four r q = same
