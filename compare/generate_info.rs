@@ -82,6 +82,7 @@ pub fn systematic(size: Size, emit: Emit) {
     short_areas(size, emit);
     single_records(size, emit);
     damaged_rows(size, emit);
+    broken_records(size, emit);
     timestamps(size, emit);
     long_areas(size, emit);
     empty_records(size, emit);
@@ -191,6 +192,25 @@ fn damaged_rows(size: Size, emit: Emit) {
                 nth(area, &[1], emit);
             }
         });
+    }
+}
+
+/// Behind up to twenty records of several lengths one that is broken, so at as many places; the sample
+/// has some of them.
+fn broken_records(size: Size, emit: Emit) {
+    let kept = |count: &usize| size.full() || matches!(count, 1 | 3 | 7..=9 | 16 | 17);
+    for count in (1..=20).filter(kept) {
+        let good = |i: usize| record(TYPES[i % TYPES.len()], &filler(i % 4));
+        let row: Vec<u8> = (0..count).flat_map(good).collect();
+        for area in &each_end(&row)[1..] {
+            match size {
+                Size::Full => read(area, &around(count), emit),
+                Size::Sample => {
+                    emit(60, area, 0);
+                    nth(area, &[0], emit);
+                }
+            }
+        }
     }
 }
 

@@ -105,6 +105,11 @@ fn held_frames(emit: Emit) {
         emit(56, &[refused, 6, 0x10, 7, 0, 9, 1, 2, 3, 4, 5, 6, 7, 8, 9], 0);
         emit(57, &[refused, 3, 0, 0, 0x2A], 0);
     }
+    // It comes first where the fields are broken too.
+    for refused in [1, 2, 14] {
+        emit(56, &[refused, 5, 0x20, 7, 0, 5, 1, 2, 3], 0);
+        emit(57, &[refused, 1, 0, 0], 0);
+    }
     each_frame(Size::Sample, &mut |fields, held| emit(56, &[&[0], fields, held].concat(), 0));
 }
 

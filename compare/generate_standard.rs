@@ -169,8 +169,18 @@ fn cemi_lengths(size: Size, input: &mut dyn FnMut(&[u8])) {
         }
     }
     input(&[0x2D, 0xFF]);
+    forbidden_lengths(input);
     if size.full() {
         cemi_inputs(size, input);
+    }
+}
+
+/// An L that no such packet may have, behind areas of several lengths.
+fn forbidden_lengths(input: &mut dyn FnMut(&[u8])) {
+    for additional in [0, 1, 4, 255] {
+        for (length_byte, tpci) in [(0, 0x00), (255, 0x43), (1, 0x80)] {
+            input(&cemi(0x29, additional, &frame(length_byte, tpci, 10)));
+        }
     }
 }
 
@@ -238,8 +248,10 @@ fn some_lengths(size: Size) -> Vec<u8> {
     small.chain([254, 255]).collect()
 }
 
-/// Every L for every kind, over slices around the least frame and around the end.
+/// Every L for every kind, over slices around the least frame and around the end; every slice that
+/// is too short.
 fn made_fields(size: Size, emit: Emit) {
+    (0..8).for_each(|n| emit(69, &ldata_args(0xE0, 1, 0, 3, 0, &filler(n)), 0));
     for length_byte in some_lengths(size) {
         let end = 8 + usize::from(length_byte);
         let short = (0..=20).filter(|n| size.full() || matches!(n, 7..=10 | 20));
@@ -273,6 +285,8 @@ fn held_data(size: Size, emit: Emit) {
         emit(70, &[refused, 3, 0, 0, 0x0C, 0x1A], 0);
         emit(70, &[refused, 0, 2, 0], 0);
     }
+    // It comes first where the fields are broken too.
+    [1, 2, 14].into_iter().for_each(|refused| emit(70, &[refused, 0, 0, 0], 0));
     for length_byte in some_lengths(size) {
         let least = usize::from(length_byte).saturating_sub(1);
         let short = (0..=12).filter(|n| size.full() || matches!(n, 0..=2 | 11));

@@ -65,8 +65,14 @@ fn acknowledgement_build(size: Size, emit: Emit) {
     }
 }
 
+/// Every length of the good body below what is needed.
+fn too_short(good: &[u8], body: &mut dyn FnMut(&[u8])) {
+    (0..good.len()).for_each(|length| body(&good[..length]));
+}
+
 /// Its length byte is not looked at, nor what stands behind the status.
 fn acknowledgement_parse(size: Size, body: &mut dyn FnMut(&[u8])) {
+    too_short(&[4, 0x15, 7, 0], body);
     for length in lengths(size, &[4]) {
         for status in STATUSES {
             body(&of_length(&[4, 0x15, 7, status], length));
@@ -108,6 +114,7 @@ fn short_bodies(size: Size, around: &[usize], body: &mut dyn FnMut(&[u8])) {
 
 fn connect_response(size: Size, body: &mut dyn FnMut(&[u8])) {
     [&NO_MORE_CONNECTIONS[..], &REFUSED_WITH_HPAI, &ACCEPTED].into_iter().for_each(&mut *body);
+    too_short(&ACCEPTED, body);
     short_bodies(size, &[1, 14], body);
     if size.full() {
         each_length(&ACCEPTED, 20, body);
@@ -120,10 +127,12 @@ fn connect_response(size: Size, body: &mut dyn FnMut(&[u8])) {
     }
     long_bodies(size, &ACCEPTED, body);
     long_bodies(size, &REFUSED_WITH_HPAI, body);
+    long_bodies(size, &with_hpai(0, 7), body);
 }
 
 fn disconnect_request(size: Size, body: &mut dyn FnMut(&[u8])) {
     DISCONNECTS.iter().for_each(|known| body(known));
+    too_short(&DISCONNECTS[0], body);
     short_bodies(size, &[1, 10], body);
     if size.full() {
         each_length(&DISCONNECTS[0], 16, body);
@@ -133,6 +142,7 @@ fn disconnect_request(size: Size, body: &mut dyn FnMut(&[u8])) {
         body(&[0xFE, 1, 8, protocol, 10, 20, 30, 40, 0x12, 0x34]);
     }
     long_bodies(size, &DISCONNECTS[0], body);
+    long_bodies(size, &with_hpai(0, 9), body);
 }
 
 fn disconnect_response(size: Size, emit: Emit) {

@@ -151,6 +151,7 @@ pub fn systematic(size: Size, emit: Emit) {
         all_frames(Of01, size, emit);
     }
     in_knx_form(size, emit);
+    FORMS.into_iter().for_each(|form| refused_with_tails(form, emit));
     mixed_requests(emit);
     mixed_acknowledgements(size, emit);
 }
@@ -338,6 +339,28 @@ fn short_bodies(form: Form, emit: Emit) {
             }
         }
     }
+}
+
+/// Every refusal, with bytes behind the total length where there can be some: whatever is too short
+/// ends before them, and no other place moves.
+fn refused_with_tails(form: Form, emit: Emit) {
+    let good = request_input(ID, 7, &filler(2));
+    let length = good.len() as u8;
+    let mut steps = form.datagrams((0..6).map(|end| good[..end].to_vec()).collect(), 20);
+    steps.push(form.datagram(changed(&good, 5, &[length + 1]), 20));
+    let mut inputs = vec![changed(&good, 0, &[5]), changed(&good, 1, &[0x11])];
+    inputs.extend([[4, 0x22], [2, 5], [2, 0x0A]].map(|service| changed(&good, 2, &service)));
+    inputs.extend([5, 9].map(|total| changed(&good, 5, &[total])));
+    inputs.extend([REQUEST, ACKNOWLEDGEMENT].map(|service| header(service, 6)));
+    inputs.extend([request_input(NINTH, 7, &filler(2)), form.ack_input(NINTH, 7, 0)]);
+    inputs.iter_mut().for_each(|input| input.push(0xFF));
+    steps.extend(form.datagrams(inputs, 20));
+    // The output decides, not the datagram.
+    for number in [7, 6] {
+        let input = [request_input(ID, number, &[]), filler(3)].concat();
+        steps.push(form.datagram(input, form.ack_length() - 1));
+    }
+    sequence(&[channel(ID, 7, 7, FIRST)], &steps, emit);
 }
 
 /// What is not looked at: bytes behind the total length, the connection header's length byte and

@@ -1,6 +1,7 @@
 // The other side: the published Rust behind the border's signatures, and, where it has no such call,
 // the comparison's own writing of document 01, for additional information and the standard count those
-// of info.rs and standard.rs. Crate root: the published files stand beside it.
+// of info.rs and standard.rs. It says no offset of a refusal, which the Rust does not have. Crate root:
+// the published files stand beside it.
 
 pub mod addressing;
 pub mod border;
@@ -44,7 +45,8 @@ pub unsafe extern "C" fn rust_frame_parse(data: *const u8, length: usize) -> Knx
         Ok(frame) => {
             let (start, end) = place(frame.body(), data);
             let service = frame.service_type().to_u16();
-            KnxFrame { start, end, service, total: frame.header().total_length, number: 0 }
+            let total = frame.header().total_length;
+            KnxFrame { start, end, service, total, ..KnxFrame::default() }
         }
         Err(error) => KnxFrame { number: error.number(), ..KnxFrame::default() },
     }
@@ -58,7 +60,7 @@ pub unsafe extern "C" fn rust_hpai_parse(data: *const u8, length: usize) -> KnxH
             host_protocol: hpai.host_protocol,
             address: hpai.ip_address,
             port: hpai.port,
-            number: 0,
+            ..KnxHpai::default()
         },
         Err(error) => KnxHpai { number: error.number(), ..KnxHpai::default() },
     }
@@ -78,7 +80,7 @@ pub unsafe extern "C" fn rust_connect_response(
             address: response.data_endpoint.ip_address,
             port: response.data_endpoint.port,
             crd: response.crd,
-            number: 0,
+            ..KnxConnectResponse::default()
         },
         Err(error) => {
             KnxConnectResponse { number: error.number(), ..KnxConnectResponse::default() }
@@ -134,7 +136,7 @@ fn cemi_ldata(data: &[u8]) -> Result<KnxLData> {
         apci_named: u8::from(!matches!(frame.apci, Apci::Unknown(_))),
         control_code: 0,
         six_bit: if frame.tpci.is_data() { extract_6bit_value(data[start - 1]) } else { 0 },
-        number: 0,
+        ..KnxLData::default()
     })
 }
 
@@ -150,7 +152,7 @@ pub unsafe extern "C" fn rust_cemi_ldata_standard(data: *const u8, length: usize
 pub unsafe extern "C" fn rust_cemi_additional_info(data: *const u8, length: usize) -> KnxPart {
     let data = from_raw_parts(data, length);
     match CEMIFrame::parse(data).and_then(|cemi| Ok(place(cemi.service_info()?, data))) {
-        Ok((end, _)) => KnxPart { start: CEMIFrame::MIN_SIZE, end, number: 0 },
+        Ok((end, _)) => KnxPart { start: CEMIFrame::MIN_SIZE, end, ..KnxPart::default() },
         Err(error) => KnxPart { number: error.number(), ..KnxPart::default() },
     }
 }
@@ -185,7 +187,7 @@ fn record(answer: core::result::Result<Option<Record>, u8>, area: &[u8]) -> KnxA
                 named: record.named().into(),
                 info_type: record.kind,
                 timestamped: timestamp.is_some().into(),
-                number: 0,
+                ..KnxAdditionalInfo::default()
             }
         }
         Ok(None) => KnxAdditionalInfo::default(),
@@ -196,15 +198,15 @@ fn record(answer: core::result::Result<Option<Record>, u8>, area: &[u8]) -> KnxA
 #[no_mangle]
 pub unsafe extern "C" fn rust_additional_info_count(area: *const u8, length: usize) -> KnxCount {
     match info::count(from_raw_parts(area, length)) {
-        Ok(count) => KnxCount { count, number: 0 },
-        Err(number) => KnxCount { count: 0, number },
+        Ok(count) => KnxCount { count, ..KnxCount::default() },
+        Err(number) => KnxCount { number, ..KnxCount::default() },
     }
 }
 
 fn written(answer: core::result::Result<usize, u8>) -> KnxWritten {
     match answer {
-        Ok(count) => KnxWritten { count, number: 0 },
-        Err(number) => KnxWritten { count: 0, number },
+        Ok(count) => KnxWritten { count, ..KnxWritten::default() },
+        Err(number) => KnxWritten { number, ..KnxWritten::default() },
     }
 }
 
@@ -295,7 +297,7 @@ pub unsafe extern "C" fn rust_cemi_build(
 fn called(answer: core::result::Result<Answer, u8>) -> KnxCalled {
     match answer {
         Ok(Answer { said, view: [start, end], written }) => {
-            KnxCalled { start, end, written, said: said as u8, number: 0 }
+            KnxCalled { start, end, written, said: said as u8, ..KnxCalled::default() }
         }
         Err(number) => KnxCalled { number, ..KnxCalled::default() },
     }

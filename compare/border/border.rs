@@ -6,6 +6,7 @@
 pub struct KnxFrame {
     pub start: usize,
     pub end: usize,
+    pub offset: usize,
     pub service: u16,
     pub total: u16,
     pub number: u8,
@@ -14,6 +15,7 @@ pub struct KnxFrame {
 #[repr(C)]
 #[derive(Clone, Copy, Debug, Default, PartialEq)]
 pub struct KnxHpai {
+    pub offset: usize,
     pub structure_length: u8,
     pub host_protocol: u8,
     pub address: [u8; 4],
@@ -24,6 +26,7 @@ pub struct KnxHpai {
 #[repr(C)]
 #[derive(Clone, Copy, Debug, Default, PartialEq)]
 pub struct KnxConnectResponse {
+    pub offset: usize,
     pub channel: u8,
     pub status: u8,
     pub structure_length: u8,
@@ -37,6 +40,7 @@ pub struct KnxConnectResponse {
 #[repr(C)]
 #[derive(Clone, Copy, Debug, Default, PartialEq)]
 pub struct KnxStatus {
+    pub offset: usize,
     pub channel: u8,
     pub status: u8,
     pub number: u8,
@@ -45,6 +49,7 @@ pub struct KnxStatus {
 #[repr(C)]
 #[derive(Clone, Copy, Debug, Default, PartialEq)]
 pub struct KnxDisconnectRequest {
+    pub offset: usize,
     pub channel: u8,
     pub structure_length: u8,
     pub host_protocol: u8,
@@ -58,6 +63,7 @@ pub struct KnxDisconnectRequest {
 pub struct KnxLData {
     pub start: usize,
     pub end: usize,
+    pub offset: usize,
     pub source: u16,
     pub destination: u16,
     pub apci_code: u16,
@@ -78,6 +84,7 @@ pub struct KnxLData {
 pub struct KnxPart {
     pub start: usize,
     pub end: usize,
+    pub offset: usize,
     pub number: u8,
 }
 
@@ -86,6 +93,7 @@ pub struct KnxPart {
 pub struct KnxAdditionalInfo {
     pub start: usize,
     pub end: usize,
+    pub offset: usize,
     pub timestamp: u32,
     pub found: u8,
     pub named: u8,
@@ -98,6 +106,7 @@ pub struct KnxAdditionalInfo {
 #[derive(Clone, Copy, Debug, Default, PartialEq)]
 pub struct KnxCount {
     pub count: usize,
+    pub offset: usize,
     pub number: u8,
 }
 
@@ -105,6 +114,7 @@ pub struct KnxCount {
 #[derive(Clone, Copy, Debug, Default, PartialEq)]
 pub struct KnxWritten {
     pub count: usize,
+    pub offset: usize,
     pub number: u8,
 }
 
@@ -121,6 +131,7 @@ pub struct KnxCalled {
     pub start: usize,
     pub end: usize,
     pub written: usize,
+    pub offset: usize,
     pub said: u8,
     pub number: u8,
 }

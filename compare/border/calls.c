@@ -108,17 +108,24 @@ static void addresses(void) {
 /* ---- reading */
 
 static int frame_is(KnxFrame f, size_t start, size_t end, unsigned service, unsigned total, unsigned number) {
-    return f.start == start && f.end == end && f.service == service && f.total == total && f.number == number;
+    return f.start == start && f.end == end && f.service == service && f.total == total && f.number == number && f.offset == 0;
+}
+
+/* All fields are 0 but the number and the offset of what decided it; so in what follows. */
+static int frame_refused(KnxFrame f, unsigned number, size_t offset) {
+    return f.number == number && f.offset == offset && f.start == 0 && f.end == 0 && f.service == 0 && f.total == 0;
 }
 
 static void frames(void) {
-    CHECK(frame_is(knx_frame_parse(BYTES(0), 0), 0, 0, 0, 0, 1));
-    CHECK(frame_is(knx_frame_parse(LENT(0x06, 0x10, 0x04, 0x20, 0x00)), 0, 0, 0, 0, 1));
-    CHECK(frame_is(knx_frame_parse(LENT(0x05, 0x20, 0x04, 0x20, 0x00, 0x06)), 0, 0, 0, 0, 2));
-    CHECK(frame_is(knx_frame_parse(LENT(0x06, 0x20, 0x04, 0x20, 0x00, 0x06)), 0, 0, 0, 0, 3));
-    CHECK(frame_is(knx_frame_parse(LENT(0x06, 0x10, 0xFF, 0xFF, 0x00, 0x06)), 0, 0, 0, 0, 4));
-    CHECK(frame_is(knx_frame_parse(LENT(0x06, 0x10, 0x04, 0x20, 0x00, 0x05)), 0, 0, 0, 0, 2));
-    CHECK(frame_is(knx_frame_parse(LENT(0x06, 0x10, 0x04, 0x20, 0x00, 0x07)), 0, 0, 0, 0, 2));
+    CHECK(frame_refused(knx_frame_parse(BYTES(0), 0), 1, 0));
+    CHECK(frame_refused(knx_frame_parse(LENT(0x06, 0x10, 0x04, 0x20, 0x00)), 1, 5));
+    CHECK(frame_refused(knx_frame_parse(LENT(0x05, 0x20, 0x04, 0x20, 0x00, 0x06)), 2, 0));
+    CHECK(frame_refused(knx_frame_parse(LENT(0x06, 0x20, 0x04, 0x20, 0x00, 0x06)), 3, 1));
+    CHECK(frame_refused(knx_frame_parse(LENT(0x06, 0x10, 0xFF, 0xFF, 0x00, 0x06)), 4, 2));
+    CHECK(frame_refused(knx_frame_parse(LENT(0x06, 0x10, 0x04, 0x20, 0x00, 0x05)), 2, 4));
+    CHECK(frame_refused(knx_frame_parse(LENT(0x06, 0x10, 0x04, 0x20, 0x00, 0x07)), 2, 4));
+    CHECK(frame_refused(knx_frame_parse(LENT(0x06, 0x10, 0x04, 0x20, 0x00, 0x05, 0xEE, 0xEE)), 2, 4));
+    CHECK(frame_refused(knx_frame_parse(large, LONG), 2, 0));
     CHECK(frame_is(knx_frame_parse(LENT(0x06, 0x10, 0x04, 0x20, 0x00, 0x06)), 6, 6, 0x0420, 6, 0));
     CHECK(frame_is(knx_frame_parse(LENT(0x06, 0x10, 0x04, 0x21, 0x00, 0x0B, 0x04, 0x15, 0x07, 0x00, 0x00, 0xEE, 0xEE)),
                    6, 11, 0x0421, 11, 0));
@@ -126,69 +133,83 @@ static void frames(void) {
 
 static void hpais(void) {
     KnxHpai h = knx_hpai_parse(LENT(0x08, 0x02, 0xC0, 0xA8, 0x01, 0x0A, 0x0E, 0x57, 0xEE));
-    CHECK(h.number == 0 && h.structure_length == 8 && h.host_protocol == 2 && h.port == 3671);
+    CHECK(h.number == 0 && h.offset == 0 && h.structure_length == 8 && h.host_protocol == 2 && h.port == 3671);
     CHECK(memcmp(h.address, BYTES(192, 168, 1, 10), 4) == 0);
     h = knx_hpai_parse(LENT(0x08, 0x01, 0xC0, 0xA8, 0x01, 0x0A, 0x0E));
-    CHECK(h.number == 1 && h.structure_length == 0 && h.host_protocol == 0 && h.port == 0);
+    CHECK(h.number == 1 && h.offset == 7 && h.structure_length == 0 && h.host_protocol == 0 && h.port == 0);
     CHECK(memcmp(h.address, BYTES(0, 0, 0, 0), 4) == 0);
     h = knx_hpai_parse(LENT(0x07, 0x01, 0xC0, 0xA8, 0x01, 0x0A, 0x0E, 0x57));
-    CHECK(h.number == 2 && h.port == 0);
+    CHECK(h.number == 2 && h.offset == 0 && h.port == 0);
+    h = knx_hpai_parse(BYTES(8), 0);
+    CHECK(h.number == 1 && h.offset == 0 && h.port == 0);
 }
 
 static void connect_responses(void) {
     KnxConnectResponse r =
         knx_connect_response(LENT(0x15, 0x24, 0x08, 0x01, 0x0A, 0x00, 0x00, 0x07, 0xC3, 0x50, 0x04, 0x05, 0x11, 0x0A));
     CHECK(r.number == 0 && r.channel == 0x15 && r.status == 0x24 && r.structure_length == 8 && r.host_protocol == 1);
+    CHECK(r.offset == 0);
     CHECK(memcmp(r.address, BYTES(10, 0, 0, 7), 4) == 0 && r.port == 50000);
     CHECK(memcmp(r.crd, BYTES(0x04, 0x05, 0x11, 0x0A), 4) == 0);
     r = knx_connect_response(LENT(0x15, 0x00, 0x08, 0x01, 0x0A, 0x00, 0x00, 0x07, 0xC3, 0x50, 0x04, 0x05, 0x11));
-    CHECK(r.number == 1 && r.channel == 0 && r.port == 0 && memcmp(r.crd, BYTES(0, 0, 0, 0), 4) == 0);
+    CHECK(r.number == 1 && r.offset == 13 && r.channel == 0 && r.port == 0 && memcmp(r.crd, BYTES(0, 0, 0, 0), 4) == 0);
     r = knx_connect_response(LENT(0x15, 0x00, 0x09, 0x01, 0x0A, 0x00, 0x00, 0x07, 0xC3, 0x50, 0x04, 0x05, 0x11, 0x0A));
-    CHECK(r.number == 2 && r.channel == 0 && r.host_protocol == 0);
+    CHECK(r.number == 2 && r.offset == 2 && r.channel == 0 && r.host_protocol == 0);
 }
 
 /* All fields are 0 but these. */
-static int bare_response(KnxConnectResponse r, unsigned channel, unsigned status, unsigned number) {
-    return r.channel == channel && r.status == status && r.number == number && r.structure_length == 0 &&
-           r.host_protocol == 0 && memcmp(r.address, BYTES(0, 0, 0, 0), 4) == 0 && r.port == 0 &&
-           memcmp(r.crd, BYTES(0, 0, 0, 0), 4) == 0;
+static int told(KnxConnectResponse r, unsigned channel, unsigned status, unsigned number, size_t offset) {
+    return r.channel == channel && r.status == status && r.number == number && r.offset == offset &&
+           r.structure_length == 0 && r.host_protocol == 0 && memcmp(r.address, BYTES(0, 0, 0, 0), 4) == 0 &&
+           r.port == 0 && memcmp(r.crd, BYTES(0, 0, 0, 0), 4) == 0;
 }
+
+/* A response of a gateway that refuses. */
+static int bare_response(KnxConnectResponse r, unsigned channel, unsigned status) { return told(r, channel, status, 0, 0); }
+
+static int response_refused(KnxConnectResponse r, unsigned number, size_t offset) { return told(r, 0, 0, number, offset); }
 
 /* In KNX's own form, as a real gateway sends them. */
 static void connect_responses_standard(void) {
     KnxConnectResponse r = knx_connect_response_standard(
         LENT(0x15, 0x00, 0x08, 0x02, 0x0A, 0x00, 0x00, 0x07, 0xC3, 0x50, 0x04, 0x05, 0x11, 0x0A, 0xEE));
-    CHECK(r.number == 0 && r.channel == 0x15 && r.status == 0 && r.structure_length == 8 && r.host_protocol == 2);
+    CHECK(r.number == 0 && r.channel == 0x15 && r.status == 0 && r.structure_length == 8 && r.host_protocol == 2 && r.offset == 0);
     CHECK(memcmp(r.address, BYTES(10, 0, 0, 7), 4) == 0 && r.port == 50000);
     CHECK(memcmp(r.crd, BYTES(0x04, 0x05, 0x11, 0x0A), 4) == 0);
     CHECK(knx_own_address(r) == 0x110A);
     r = knx_connect_response_standard(LENT(1, 0, 8, 1, 127, 0, 0, 1, 0x0E, 0x57, 4, 4, 0xFF, 0xFE));
     CHECK(r.number == 0 && r.channel == 1 && r.port == 3671 && knx_own_address(r) == KNX_INDIVIDUAL_ADDRESS(15, 15, 254));
     /* a gateway that refuses: channel and status, whatever follows, a whole response too */
-    CHECK(bare_response(knx_connect_response_standard(LENT(0x00, 0x24)), 0, KNX_STATUS_NO_MORE_CONNECTIONS, 0));
-    CHECK(bare_response(knx_connect_response_standard(LENT(0x15, 0x01, 0xEE)), 0x15, 1, 0));
-    CHECK(bare_response(knx_connect_response_standard(LENT(0x15, 0x22, 0x08, 0x01, 0x0A, 0x00, 0x00, 0x07, 0xC3, 0x50)), 0x15, 0x22, 0));
+    CHECK(bare_response(knx_connect_response_standard(LENT(0x00, 0x24)), 0, KNX_STATUS_NO_MORE_CONNECTIONS));
+    CHECK(bare_response(knx_connect_response_standard(LENT(0x15, 0x01, 0xEE)), 0x15, 1));
+    CHECK(bare_response(knx_connect_response_standard(LENT(0x15, 0x22, 0x08, 0x01, 0x0A, 0x00, 0x00, 0x07, 0xC3, 0x50)), 0x15, 0x22));
     r = knx_connect_response_standard(
         LENT(0x15, 0xFF, 0x07, 0x01, 0x0A, 0x00, 0x00, 0x07, 0xC3, 0x50, 0x04, 0x05, 0x11, 0x0A));
-    CHECK(bare_response(r, 0x15, 0xFF, 0) && knx_own_address(r) == 0);
-    CHECK(bare_response(knx_connect_response(LENT(0x00, 0x24)), 0, 0, 1));
+    CHECK(bare_response(r, 0x15, 0xFF) && knx_own_address(r) == 0);
+    CHECK(response_refused(knx_connect_response(LENT(0x00, 0x24)), 1, 2));
     /* refused: too short, which is asked first, then another length of the endpoint */
-    CHECK(bare_response(knx_connect_response_standard(BYTES(0x15, 0x24), 0), 0, 0, 1));
-    CHECK(bare_response(knx_connect_response_standard(BYTES(0x15, 0x24), 1), 0, 0, 1));
-    CHECK(bare_response(knx_connect_response_standard(LENT(0x15, 0x00)), 0, 0, 1));
+    CHECK(response_refused(knx_connect_response_standard(BYTES(0x15, 0x24), 0), 1, 0));
+    CHECK(response_refused(knx_connect_response_standard(BYTES(0x15, 0x24), 1), 1, 1));
+    CHECK(response_refused(knx_connect_response_standard(LENT(0x15, 0x00)), 1, 2));
     r = knx_connect_response_standard(LENT(0x15, 0x00, 0x09, 0x01, 0x0A, 0x00, 0x00, 0x07, 0xC3, 0x50, 0x04, 0x05, 0x11));
-    CHECK(bare_response(r, 0, 0, 1) && knx_own_address(r) == 0);
+    CHECK(response_refused(r, 1, 13) && knx_own_address(r) == 0);
     r = knx_connect_response_standard(LENT(0x15, 0x00, 0x09, 0x01, 0x0A, 0x00, 0x00, 0x07, 0xC3, 0x50, 0x04, 0x05, 0x11, 0x0A));
-    CHECK(bare_response(r, 0, 0, 2) && knx_own_address(r) == 0);
-    CHECK(bare_response(knx_connect_response_standard(large, LONG), 0, 0, 2));
+    CHECK(response_refused(r, 2, 2) && knx_own_address(r) == 0);
+    CHECK(response_refused(knx_connect_response_standard(large, LONG), 2, 2));
+    CHECK(response_refused(knx_connect_response(large, LONG), 2, 2));
+    CHECK(response_refused(knx_connect_response(BYTES(0x15, 0x24), 0), 1, 0));
     /* an address is that of the response that is handed in, whatever stands in its other fields */
-    r = (KnxConnectResponse){.channel = 1, .status = 2, .structure_length = 3, .host_protocol = 4, .address = {5, 6, 7, 8},
+    r = (KnxConnectResponse){.offset = 16, .channel = 1, .status = 2, .structure_length = 3, .host_protocol = 4, .address = {5, 6, 7, 8},
                              .port = 0x090A, .crd = {11, 12, 13, 14}, .number = 15};
     CHECK(knx_own_address(r) == 0x0D0E);
 }
 
 static int status_is(KnxStatus s, unsigned channel, unsigned status, unsigned number) {
-    return s.channel == channel && s.status == status && s.number == number;
+    return s.channel == channel && s.status == status && s.number == number && s.offset == 0;
+}
+
+static int status_refused(KnxStatus s, unsigned number, size_t offset) {
+    return s.number == number && s.offset == offset && s.channel == 0 && s.status == 0;
 }
 
 static void statuses(void) {
@@ -196,54 +217,54 @@ static void statuses(void) {
     CHECK(status_is(knx_connectionstate_response(LENT(0x15, 0x21, 0xEE)), 0x15, KNX_STATUS_CONNECTION_ID, 0));
     CHECK(status_is(knx_connectionstate_response(LENT(0xFF, 0xFE)), 0xFF, 0xFE, 0));
     CHECK(status_is(knx_connectionstate_response(large, LONG), 0, 0, 0));
-    CHECK(status_is(knx_connectionstate_response(BYTES(0x15, 0x21), 1), 0, 0, 1));
-    CHECK(status_is(knx_connectionstate_response(BYTES(0x15, 0x21), 0), 0, 0, 1));
+    CHECK(status_refused(knx_connectionstate_response(BYTES(0x15, 0x21), 1), 1, 1));
+    CHECK(status_refused(knx_connectionstate_response(BYTES(0x15, 0x21), 0), 1, 0));
     CHECK(status_is(knx_disconnect_response(LENT(0x2A, 0x00)), 0x2A, KNX_STATUS_NO_ERROR, 0));
     CHECK(status_is(knx_disconnect_response(LENT(0x2A, 0x26, 0xEE)), 0x2A, KNX_STATUS_DATA_CONNECTION, 0));
     CHECK(status_is(knx_disconnect_response(LENT(0xFE, 0xFF)), 0xFE, 0xFF, 0));
     CHECK(status_is(knx_disconnect_response(large, LONG), 0, 0, 0));
-    CHECK(status_is(knx_disconnect_response(BYTES(0x2A, 0x26), 1), 0, 0, 1));
-    CHECK(status_is(knx_disconnect_response(BYTES(0x2A, 0x26), 0), 0, 0, 1));
+    CHECK(status_refused(knx_disconnect_response(BYTES(0x2A, 0x26), 1), 1, 1));
+    CHECK(status_refused(knx_disconnect_response(BYTES(0x2A, 0x26), 0), 1, 0));
 }
 
-static int disconnect_refused(KnxDisconnectRequest d, unsigned number) {
-    return d.number == number && d.channel == 0 && d.structure_length == 0 && d.host_protocol == 0 &&
+static int disconnect_refused(KnxDisconnectRequest d, unsigned number, size_t offset) {
+    return d.number == number && d.offset == offset && d.channel == 0 && d.structure_length == 0 && d.host_protocol == 0 &&
            memcmp(d.address, BYTES(0, 0, 0, 0), 4) == 0 && d.port == 0;
 }
 
 static void disconnect_requests(void) {
     /* the second byte and the protocol may be any */
     KnxDisconnectRequest d = knx_disconnect_request_parse(LENT(0x15, 0xEE, 0x08, 0x02, 0xC0, 0xA8, 0x01, 0x0A, 0x0E, 0x57, 0xEE));
-    CHECK(d.number == 0 && d.channel == 0x15 && d.structure_length == 8 && d.host_protocol == 2 && d.port == 3671);
+    CHECK(d.number == 0 && d.channel == 0x15 && d.structure_length == 8 && d.host_protocol == 2 && d.port == 3671 && d.offset == 0);
     CHECK(memcmp(d.address, BYTES(192, 168, 1, 10), 4) == 0);
     d = knx_disconnect_request_parse(LENT(0x2A, 0x00, 0x08, 0x01, 0x00, 0x00, 0x00, 0x00, 0x00, 0x00));
     CHECK(d.number == 0 && d.channel == 0x2A && d.structure_length == 8 && d.host_protocol == 1 && d.port == 0);
     CHECK(memcmp(d.address, BYTES(0, 0, 0, 0), 4) == 0);
-    CHECK(disconnect_refused(knx_disconnect_request_parse(BYTES(0x15), 0), 1));
-    CHECK(disconnect_refused(knx_disconnect_request_parse(LENT(0x15, 0x00)), 1));
-    CHECK(disconnect_refused(knx_disconnect_request_parse(LENT(0x15, 0x00, 0x08, 0x01, 0xC0, 0xA8, 0x01, 0x0A, 0x0E)), 1));
-    CHECK(disconnect_refused(knx_disconnect_request_parse(LENT(0x15, 0x00, 0x09, 0x01, 0xC0, 0xA8, 0x01, 0x0A, 0x0E)), 1));
-    CHECK(disconnect_refused(knx_disconnect_request_parse(LENT(0x15, 0x00, 0x09, 0x01, 0xC0, 0xA8, 0x01, 0x0A, 0x0E, 0x57)), 2));
-    CHECK(disconnect_refused(knx_disconnect_request_parse(LENT(0x15, 0x08, 0x07, 0x01, 0xC0, 0xA8, 0x01, 0x0A, 0x0E, 0x57)), 2));
-    CHECK(disconnect_refused(knx_disconnect_request_parse(large, LONG), 2));
+    CHECK(disconnect_refused(knx_disconnect_request_parse(BYTES(0x15), 0), 1, 0));
+    CHECK(disconnect_refused(knx_disconnect_request_parse(LENT(0x15, 0x00)), 1, 2));
+    CHECK(disconnect_refused(knx_disconnect_request_parse(LENT(0x15, 0x00, 0x08, 0x01, 0xC0, 0xA8, 0x01, 0x0A, 0x0E)), 1, 9));
+    CHECK(disconnect_refused(knx_disconnect_request_parse(LENT(0x15, 0x00, 0x09, 0x01, 0xC0, 0xA8, 0x01, 0x0A, 0x0E)), 1, 9));
+    CHECK(disconnect_refused(knx_disconnect_request_parse(LENT(0x15, 0x00, 0x09, 0x01, 0xC0, 0xA8, 0x01, 0x0A, 0x0E, 0x57)), 2, 2));
+    CHECK(disconnect_refused(knx_disconnect_request_parse(LENT(0x15, 0x08, 0x07, 0x01, 0xC0, 0xA8, 0x01, 0x0A, 0x0E, 0x57)), 2, 2));
+    CHECK(disconnect_refused(knx_disconnect_request_parse(large, LONG), 2, 2));
 }
 
-static int ldata_refused(KnxLData l, unsigned number) {
-    return l.number == number && l.start == 0 && l.end == 0 && l.source == 0 && l.destination == 0 && l.apci_code == 0 &&
-           l.message_code == 0 && l.control_1 == 0 && l.control_2 == 0 && l.npdu_length == 0 && l.tpci_kind == 0 &&
+static int ldata_refused(KnxLData l, unsigned number, size_t offset) {
+    return l.number == number && l.offset == offset && l.start == 0 && l.end == 0 && l.source == 0 &&
+           l.destination == 0 && l.apci_code == 0 && l.message_code == 0 && l.control_1 == 0 && l.control_2 == 0 && l.npdu_length == 0 && l.tpci_kind == 0 &&
            l.tpci_sequence == 0 && l.apci_named == 0 && l.control_code == 0 && l.six_bit == 0;
 }
 
 static void cemis(void) {
     /* group write, data 2A, behind two bytes of additional information */
     KnxLData l = knx_cemi_ldata(LENT(0x29, 0x02, 0xAA, 0xBB, 0x94, 0xE0, 0x11, 0x05, 0x08, 0x03, 0x03, 0x00, 0x80, 0x2A));
-    CHECK(l.number == 0 && l.message_code == 0x29 && l.control_1 == 0x94 && l.control_2 == 0xE0);
+    CHECK(l.number == 0 && l.offset == 0 && l.message_code == 0x29 && l.control_1 == 0x94 && l.control_2 == 0xE0);
     CHECK(l.source == 0x1105 && l.destination == 0x0803 && l.npdu_length == 3);
     CHECK(l.tpci_kind == 0 && l.tpci_sequence == 0 && l.apci_named == 1 && l.apci_code == 0x080 && l.six_bit == 0);
     CHECK(l.start == 13 && l.end == 14);
     /* the same with L = 4, and L = 1 with a six-bit 1 */
-    CHECK(ldata_refused(knx_cemi_ldata(LENT(0x29, 0x00, 0x94, 0xE0, 0x11, 0x05, 0x08, 0x03, 0x04, 0x00, 0x80, 0x2A)), 2));
-    CHECK(ldata_refused(knx_cemi_ldata(LENT(0x29, 0x00, 0x94, 0xE0, 0x11, 0x05, 0x08, 0x03, 0x01, 0x00, 0x81)), 2));
+    CHECK(ldata_refused(knx_cemi_ldata(LENT(0x29, 0x00, 0x94, 0xE0, 0x11, 0x05, 0x08, 0x03, 0x04, 0x00, 0x80, 0x2A)), 2, 8));
+    CHECK(ldata_refused(knx_cemi_ldata(LENT(0x29, 0x00, 0x94, 0xE0, 0x11, 0x05, 0x08, 0x03, 0x01, 0x00, 0x81)), 2, 8));
     /* the same with L = 2: group write, no data, six-bit 1 */
     l = knx_cemi_ldata(LENT(0x11, 0x00, 0x94, 0xE0, 0x11, 0x05, 0x08, 0x03, 0x02, 0x00, 0x81));
     CHECK(l.number == 0 && l.message_code == 0x11 && l.apci_code == 0x080 && l.six_bit == 1 && l.start == 11 && l.end == 11);
@@ -257,18 +278,25 @@ static void cemis(void) {
     CHECK(l.number == 0 && l.tpci_kind == 3 && l.tpci_sequence == 1 && l.apci_named == 0 && l.apci_code == 0 && l.six_bit == 0);
     CHECK(l.control_code == 0);
     CHECK(l.start == 10 && l.end == 10);
-    CHECK(ldata_refused(knx_cemi_ldata(LENT(0x29)), 1));
-    CHECK(ldata_refused(knx_cemi_ldata(LENT(0x99, 0x00)), 6));
-    CHECK(ldata_refused(knx_cemi_ldata(LENT(0x2D, 0x00, 0x94)), 6));
-    CHECK(ldata_refused(knx_cemi_ldata(LENT(0x29, 0x03, 0xAA, 0xBB)), 2));
-    CHECK(ldata_refused(knx_cemi_ldata(LENT(0x29, 0x00, 0x94, 0xE0, 0x11, 0x05, 0x08, 0x03, 0x01, 0x00)), 1));
+    CHECK(ldata_refused(knx_cemi_ldata(LENT(0x29)), 1, 1));
+    CHECK(ldata_refused(knx_cemi_ldata(LENT(0x99, 0x00)), 6, 0));
+    CHECK(ldata_refused(knx_cemi_ldata(LENT(0x2D, 0x00, 0x94)), 6, 0));
+    CHECK(ldata_refused(knx_cemi_ldata(LENT(0x29, 0x03, 0xAA, 0xBB)), 2, 1));
+    CHECK(ldata_refused(knx_cemi_ldata(LENT(0x29, 0x00, 0x94, 0xE0, 0x11, 0x05, 0x08, 0x03, 0x01, 0x00)), 1, 10));
+    /* behind two bytes of additional information: none, too few, L = 4 and L = 1 */
+    CHECK(ldata_refused(knx_cemi_ldata(LENT(0x29, 0x02, 0xAA, 0xBB)), 1, 4));
+    CHECK(ldata_refused(knx_cemi_ldata(LENT(0x29, 0x02, 0xAA, 0xBB, 0x94, 0xE0, 0x11, 0x05, 0x08, 0x03, 0x02, 0x00)), 1, 12));
+    CHECK(ldata_refused(knx_cemi_ldata(LENT(0x29, 0x02, 0xAA, 0xBB, 0x94, 0xE0, 0x11, 0x05, 0x08, 0x03, 0x04, 0x00, 0x80, 0x2A)), 2, 10));
+    CHECK(ldata_refused(knx_cemi_ldata(LENT(0x29, 0x02, 0xAA, 0xBB, 0x94, 0xE0, 0x11, 0x05, 0x08, 0x03, 0x01, 0x00, 0x81)), 2, 10));
+    CHECK(ldata_refused(knx_cemi_ldata(BYTES(0x29), 0), 1, 0));
+    CHECK(ldata_refused(knx_cemi_ldata(large, LONG), 6, 0));
 }
 
 /* In the standard count, as a real gateway sends them. */
 static void cemis_standard(void) {
     /* a switch: group write, no data, six-bit 1 */
     KnxLData l = knx_cemi_ldata_standard(LENT(0x29, 0x00, 0xBC, 0xE0, 0x11, 0x05, 0x08, 0x03, 0x01, 0x00, 0x81));
-    CHECK(l.number == 0 && l.message_code == 0x29 && l.control_1 == 0xBC && l.control_2 == 0xE0);
+    CHECK(l.number == 0 && l.offset == 0 && l.message_code == 0x29 && l.control_1 == 0xBC && l.control_2 == 0xE0);
     CHECK(l.source == 0x1105 && l.destination == 0x0803 && l.npdu_length == 1);
     CHECK(l.tpci_kind == 0 && l.tpci_sequence == 0 && l.apci_named == 1 && l.apci_code == 0x080 && l.six_bit == 1);
     CHECK(l.control_code == 0 && l.start == 11 && l.end == 11);
@@ -287,18 +315,31 @@ static void cemis_standard(void) {
     l = knx_cemi_ldata_standard(LENT(0x29, 0x00, 0xB0, 0x60, 0x11, 0x05, 0x12, 0x0A, 0x00, 0xD7, 0xEE));
     CHECK(l.number == 0 && l.tpci_kind == 3 && l.control_code == KNX_CONTROL_NAK && l.apci_code == 0 && l.end == 10);
     /* refused: too short, L of 0 and 255, a control packet with L = 1, an end past the input, and cEMI's own */
-    CHECK(ldata_refused(knx_cemi_ldata_standard(LENT(0x29, 0x00, 0xBC, 0xE0, 0x11, 0x05, 0x08, 0x03, 0x01)), 1));
-    CHECK(ldata_refused(knx_cemi_ldata_standard(LENT(0x29, 0x00, 0xBC, 0xE0, 0x11, 0x05, 0x08, 0x03, 0x01, 0x00)), 2));
-    CHECK(ldata_refused(knx_cemi_ldata_standard(LENT(0x29, 0x00, 0xBC, 0xE0, 0x11, 0x05, 0x08, 0x03, 0x00, 0x00, 0x81)), 2));
-    CHECK(ldata_refused(knx_cemi_ldata_standard(LENT(0x29, 0x00, 0xB0, 0x60, 0x11, 0x05, 0x12, 0x0A, 0x01, 0x80, 0x00)), 2));
-    CHECK(ldata_refused(knx_cemi_ldata_standard(LENT(0x29, 0x00, 0xBC, 0xE0, 0x11, 0x05, 0x08, 0x03, 0x03, 0x00, 0x80, 0x0C)), 2));
-    CHECK(ldata_refused(knx_cemi_ldata_standard(LENT(0x2D, 0xFF)), 6));
-    CHECK(ldata_refused(knx_cemi_ldata_standard(LENT(0x29, 0x03, 0xAA, 0xBB)), 2));
+    CHECK(ldata_refused(knx_cemi_ldata_standard(LENT(0x29, 0x00, 0xBC, 0xE0, 0x11, 0x05, 0x08, 0x03, 0x01)), 1, 9));
+    CHECK(ldata_refused(knx_cemi_ldata_standard(LENT(0x29, 0x00, 0xBC, 0xE0, 0x11, 0x05, 0x08, 0x03, 0x01, 0x00)), 2, 8));
+    CHECK(ldata_refused(knx_cemi_ldata_standard(LENT(0x29, 0x00, 0xBC, 0xE0, 0x11, 0x05, 0x08, 0x03, 0x00, 0x00, 0x81)), 2, 8));
+    CHECK(ldata_refused(knx_cemi_ldata_standard(LENT(0x29, 0x00, 0xB0, 0x60, 0x11, 0x05, 0x12, 0x0A, 0x01, 0x80, 0x00)), 2, 8));
+    CHECK(ldata_refused(knx_cemi_ldata_standard(LENT(0x29, 0x00, 0xBC, 0xE0, 0x11, 0x05, 0x08, 0x03, 0x03, 0x00, 0x80, 0x0C)), 2, 8));
+    CHECK(ldata_refused(knx_cemi_ldata_standard(LENT(0x2D, 0xFF)), 6, 0));
+    CHECK(ldata_refused(knx_cemi_ldata_standard(LENT(0x29, 0x03, 0xAA, 0xBB)), 2, 1));
+    CHECK(ldata_refused(knx_cemi_ldata_standard(LENT(0x29)), 1, 1));
+    CHECK(ldata_refused(knx_cemi_ldata_standard(LENT(0x99, 0x00)), 6, 0));
+    /* behind a timestamp: too short, an end past the input, and a control packet with L = 1 */
+    CHECK(ldata_refused(knx_cemi_ldata_standard(LENT(0x29, 0x04, 0x04, 0x02, 0x12, 0x34, 0xBC, 0xE0, 0x11)), 1, 9));
+    CHECK(ldata_refused(knx_cemi_ldata_standard(
+        LENT(0x29, 0x04, 0x04, 0x02, 0x12, 0x34, 0xBC, 0xE0, 0x11, 0x05, 0x08, 0x03, 0x03, 0x00, 0x80, 0x0C)), 2, 12));
+    CHECK(ldata_refused(knx_cemi_ldata_standard(
+        LENT(0x29, 0x04, 0x04, 0x02, 0x12, 0x34, 0xB0, 0x60, 0x11, 0x05, 0x12, 0x0A, 0x01, 0x80, 0x00)), 2, 12));
     uint8_t longest[2 + 263] = {0x29, 0x00, 0x3C, 0xE0, 0x11, 0x05, 0x08, 0x03, 254, 0x00, 0x80};
     l = knx_cemi_ldata_standard(longest, 2 + 262);
     CHECK(l.number == 0 && l.start == 11 && l.end == 2 + 262);
     longest[8] = 255;
-    CHECK(ldata_refused(knx_cemi_ldata_standard(longest, sizeof longest), 2));
+    CHECK(ldata_refused(knx_cemi_ldata_standard(longest, sizeof longest), 2, 8));
+    /* the longest area, and an L_Data without a byte and with L = 0 */
+    longest[1] = 255;
+    CHECK(ldata_refused(knx_cemi_ldata_standard(longest, 257), 1, 257));
+    CHECK(ldata_refused(knx_cemi_ldata_standard(longest, sizeof longest), 2, 263));
+    CHECK(ldata_refused(knx_cemi_ldata(longest, 264), 1, 264));
 }
 
 /* ---- additional information */
@@ -310,13 +351,23 @@ static void cemis_standard(void) {
 #define LDATA 0x94, 0xE0, 0x11, 0x05, 0x08, 0x03, 0x03, 0x00, 0x80, 0x2A
 
 static int part_is(KnxPart p, size_t start, size_t end, unsigned number) {
-    return p.start == start && p.end == end && p.number == number;
+    return p.start == start && p.end == end && p.number == number && p.offset == 0;
 }
 
-static int count_is(KnxCount c, size_t count, unsigned number) { return c.count == count && c.number == number; }
+static int part_refused(KnxPart p, unsigned number, size_t offset) {
+    return p.number == number && p.offset == offset && p.start == 0 && p.end == 0;
+}
+
+static int count_is(KnxCount c, size_t count, unsigned number) {
+    return c.count == count && c.number == number && c.offset == 0;
+}
+
+/* At the type byte of the record that is broken. */
+static int count_refused(KnxCount c, size_t offset) { return c.number == 14 && c.offset == offset && c.count == 0; }
 
 static int record_is(KnxAdditionalInfo r, unsigned type, unsigned named, size_t start, size_t end) {
-    return r.number == 0 && r.found == 1 && r.info_type == type && r.named == named && r.start == start && r.end == end;
+    return r.number == 0 && r.found == 1 && r.info_type == type && r.named == named && r.start == start && r.end == end &&
+           r.offset == 0;
 }
 
 /* A record without a timestamp. */
@@ -329,8 +380,8 @@ static int stamped(KnxAdditionalInfo r, unsigned type, uint32_t timestamp, size_
 }
 
 /* There is none, which is no refusal, or a refusal. */
-static int no_record(KnxAdditionalInfo r, unsigned number) {
-    return r.number == number && r.found == 0 && r.info_type == 0 && r.named == 0 && r.timestamped == 0 &&
+static int no_record(KnxAdditionalInfo r, unsigned number, size_t offset) {
+    return r.number == number && r.offset == offset && r.found == 0 && r.info_type == 0 && r.named == 0 && r.timestamped == 0 &&
            r.timestamp == 0 && r.start == 0 && r.end == 0;
 }
 
@@ -340,18 +391,18 @@ static void areas(void) {
     CHECK(part_is(knx_cemi_additional_info(LENT(0x11, 0x03, 0x03, 0x01, 0x07)), 2, 5, 0));
     /* L_Busmon.ind, which has no L_Data */
     CHECK(part_is(knx_cemi_additional_info(LENT(0x2B, 0x03, 0x03, 0x01, 0x07, 0xBC)), 2, 5, 0));
-    CHECK(part_is(knx_cemi_additional_info(BYTES(0), 0), 0, 0, 1));
-    CHECK(part_is(knx_cemi_additional_info(LENT(0x29)), 0, 0, 1));
-    CHECK(part_is(knx_cemi_additional_info(LENT(0x13, 0x05)), 0, 0, 6));
-    CHECK(part_is(knx_cemi_additional_info(large, LONG), 0, 0, 6));
-    CHECK(part_is(knx_cemi_additional_info(LENT(0x29, 0x04, 0x04, 0x02, 0x12)), 0, 0, 2));
+    CHECK(part_refused(knx_cemi_additional_info(BYTES(0), 0), 1, 0));
+    CHECK(part_refused(knx_cemi_additional_info(LENT(0x29)), 1, 1));
+    CHECK(part_refused(knx_cemi_additional_info(LENT(0x13, 0x05)), 6, 0));
+    CHECK(part_refused(knx_cemi_additional_info(large, LONG), 6, 0));
+    CHECK(part_refused(knx_cemi_additional_info(LENT(0x29, 0x04, 0x04, 0x02, 0x12)), 2, 1));
     /* an area that is a lone type byte: it is stepped over, handed out, and refused by its readers alone */
     const uint8_t *lone = BYTES(0x29, 0x01, 0x04, LDATA);
     KnxLData l = knx_cemi_ldata(lone, SIZE(0x29, 0x01, 0x04, LDATA));
     CHECK(l.number == 0 && l.source == 0x1105 && l.start == 12 && l.end == 13);
     KnxPart p = knx_cemi_additional_info(lone, SIZE(0x29, 0x01, 0x04, LDATA));
     CHECK(part_is(p, 2, 3, 0));
-    CHECK(count_is(knx_additional_info_count(lone + p.start, p.end - p.start), 0, 14));
+    CHECK(count_refused(knx_additional_info_count(lone + p.start, p.end - p.start), 0));
 }
 
 static void first_records(void) {
@@ -359,9 +410,9 @@ static void first_records(void) {
     CHECK(stamped(knx_additional_info(LENT(0x06, 0x04, 0x80, 0x01, 0x02, 0x03)), 6, 0x80010203, 2, 6));
     CHECK(plain(knx_additional_info(LENT(0x99, 0x01, 0xAA)), 0x99, 0, 2, 3));
     CHECK(plain(knx_additional_info(large, LONG), 0, 0, 2, 2));
-    CHECK(no_record(knx_additional_info(BYTES(4), 0), 0));
-    CHECK(no_record(knx_additional_info(LENT(0x04)), 14));
-    CHECK(no_record(knx_additional_info(LENT(0x04, 0x03, 0x00, 0x00)), 14));
+    CHECK(no_record(knx_additional_info(BYTES(4), 0), 0, 0));
+    CHECK(no_record(knx_additional_info(LENT(0x04)), 14, 0));
+    CHECK(no_record(knx_additional_info(LENT(0x04, 0x03, 0x00, 0x00)), 14, 0));
     /* timestamps of another length */
     CHECK(plain(knx_additional_info(LENT(0x04, 0x00)), 4, 1, 2, 2));
     CHECK(plain(knx_additional_info(LENT(0x04, 0x01, 0x12)), 4, 1, 2, 3));
@@ -386,18 +437,21 @@ static void nth_records(void) {
     CHECK(stamped(knx_additional_info_nth(LENT(AREA), 0), 4, 0x1234, 2, 4));
     CHECK(plain(knx_additional_info_nth(LENT(AREA), 1), 0x99, 0, 6, 7));
     CHECK(stamped(knx_additional_info_nth(LENT(AREA), 2), KNX_INFO_EXTENDED_RELATIVE_TIMESTAMP, 0x80010203, 9, 13));
-    CHECK(no_record(knx_additional_info_nth(LENT(AREA), 3), 0));
-    CHECK(no_record(knx_additional_info_nth(LENT(AREA), LONG), 0));
-    CHECK(no_record(knx_additional_info_nth(LENT(AREA), SIZE_MAX), 0));
+    CHECK(no_record(knx_additional_info_nth(LENT(AREA), 3), 0, 0));
+    CHECK(no_record(knx_additional_info_nth(LENT(AREA), LONG), 0, 0));
+    CHECK(no_record(knx_additional_info_nth(LENT(AREA), SIZE_MAX), 0, 0));
     CHECK(plain(knx_additional_info_nth(LENT(0x04, 0x00), 0), 4, 1, 2, 2));
     CHECK(plain(knx_additional_info_nth(large, LONG, 32767), 0, 0, LONG, LONG));
-    CHECK(no_record(knx_additional_info_nth(BYTES(4), 0, 0), 0));
+    CHECK(no_record(knx_additional_info_nth(BYTES(4), 0, 0), 0, 0));
     /* the whole area has to be readable, whichever record is asked for */
-    CHECK(no_record(knx_additional_info_nth(LENT(0x04), 1), 14));
-    CHECK(no_record(knx_additional_info_nth(LENT(0x04, 0x03, 0x00, 0x00), 1), 14));
-    CHECK(no_record(knx_additional_info_nth(LENT(0x04, 0x00, 0x99), 0), 14));
-    CHECK(no_record(knx_additional_info_nth(LENT(0x04, 0x00, 0x99, 0x01), 0), 14));
-    CHECK(no_record(knx_additional_info_nth(LENT(0x04, 0x00, 0x99), 7), 14));
+    CHECK(no_record(knx_additional_info_nth(LENT(0x04), 1), 14, 0));
+    CHECK(no_record(knx_additional_info_nth(LENT(0x04, 0x03, 0x00, 0x00), 1), 14, 0));
+    CHECK(no_record(knx_additional_info_nth(LENT(0x04, 0x00, 0x99), 0), 14, 2));
+    CHECK(no_record(knx_additional_info_nth(LENT(0x04, 0x00, 0x99, 0x01), 0), 14, 2));
+    CHECK(no_record(knx_additional_info_nth(LENT(0x04, 0x00, 0x99), 7), 14, 2));
+    CHECK(no_record(knx_additional_info_nth(LENT(AREA, 0x05), 0), 14, 13));
+    CHECK(no_record(knx_additional_info_nth(LENT(0x04, 0x02, 0x12, 0x34, 0x99, 0x09, 0xAA, 0x06, 0x00), 0), 14, 4));
+    CHECK(no_record(knx_additional_info_nth(large, LONG - 1, 3), 14, LONG - 2));
 }
 
 static void counts(void) {
@@ -405,10 +459,12 @@ static void counts(void) {
     CHECK(count_is(knx_additional_info_count(LENT(0x04, 0x00)), 1, 0));
     CHECK(count_is(knx_additional_info_count(LENT(AREA)), 3, 0));
     CHECK(count_is(knx_additional_info_count(large, LONG), 32768, 0));
-    CHECK(count_is(knx_additional_info_count(LENT(0x04)), 0, 14));
-    CHECK(count_is(knx_additional_info_count(LENT(0x04, 0x03, 0x00, 0x00)), 0, 14));
-    CHECK(count_is(knx_additional_info_count(LENT(0x04, 0x00, 0x99)), 0, 14));
-    CHECK(count_is(knx_additional_info_count(large, LONG - 1), 0, 14));
+    CHECK(count_refused(knx_additional_info_count(LENT(0x04)), 0));
+    CHECK(count_refused(knx_additional_info_count(LENT(0x04, 0x03, 0x00, 0x00)), 0));
+    CHECK(count_refused(knx_additional_info_count(LENT(0x04, 0x00, 0x99)), 2));
+    CHECK(count_refused(knx_additional_info_count(large, LONG - 1), LONG - 2));
+    CHECK(count_refused(knx_additional_info_count(LENT(AREA, 0x05)), 13));
+    CHECK(count_refused(knx_additional_info_count(LENT(0x04, 0x02, 0x12, 0x34, 0x99, 0x09, 0xAA, 0x06, 0x00)), 4));
 }
 
 /* The loop in include/knx.h, on a frame with three records. */
@@ -433,9 +489,14 @@ static void walking(void) {
 
 /* ---- building */
 
-static int wrote(KnxWritten w, const uint8_t *bytes, size_t n) { return w.number == 0 && w.count == n && holds(bytes, n); }
+/* A builder reads no datagram: its offset is 0, also on a refusal. */
+static int wrote(KnxWritten w, const uint8_t *bytes, size_t n) {
+    return w.number == 0 && w.offset == 0 && w.count == n && holds(bytes, n);
+}
 
-static int refused(KnxWritten w, unsigned number) { return w.number == number && w.count == 0 && untouched(); }
+static int refused(KnxWritten w, unsigned number) {
+    return w.number == number && w.offset == 0 && w.count == 0 && untouched();
+}
 
 static const KnxEndpoint control = {.address = {192, 168, 1, 10}, .port = 3671};
 static const KnxEndpoint data = {.address = {10, 0, 0, 7}, .port = 50000};
@@ -647,9 +708,9 @@ enum { ASKS = sizeof asks / sizeof *asks };
 /* Judges what was said, and forgets it. */
 static void check_said(void) {
     CHECK(part_is(said.part, 2, 257, 0) && plain(said.first, 0, 0, 2, 2));
-    CHECK(plain(said.last, 0, 0, 2 * MANY, 2 * MANY) && no_record(said.behind, 0) && count_is(said.count, MANY, 0));
+    CHECK(plain(said.last, 0, 0, 2 * MANY, 2 * MANY) && no_record(said.behind, 0, 0) && count_is(said.count, MANY, 0));
     CHECK(refused(said.append, 5) && refused(said.build, 5));
-    CHECK(no_record(said.odd, 14) && count_is(said.odd_count, 0, 14));
+    CHECK(no_record(said.odd, 14, 2 * MANY) && count_refused(said.odd_count, 2 * MANY));
     CHECK(refused(said.odd_append, 14) && refused(said.odd_build, 14));
     memset(&said, 0xEE, sizeof said);
 }
@@ -718,19 +779,23 @@ static int image_is(const uint8_t *bytes, size_t n) {
 }
 
 static int called(KnxCalled c, unsigned said, size_t start, size_t end, size_t written) {
-    return c.number == 0 && c.said == said && c.start == start && c.end == end && c.written == written;
+    return c.number == 0 && c.offset == 0 && c.said == said && c.start == start && c.end == end && c.written == written;
 }
 
-static int call_refused(KnxCalled c, unsigned number) {
-    return c.number == number && c.said == 0 && c.start == 0 && c.end == 0 && c.written == 0;
+/* Refused at an offset in the datagram. */
+static int refused_at(KnxCalled c, unsigned number, size_t offset) {
+    return c.number == number && c.offset == offset && c.said == 0 && c.start == 0 && c.end == 0 && c.written == 0;
 }
+
+/* Refused by the image, an id or the output, which stand in no datagram. */
+static int call_refused(KnxCalled c, unsigned number) { return refused_at(c, number, 0); }
 
 static void opening(void) {
     memset(image, 0xEE, LONG);
     KnxWritten w = knx_table_empty(image, 39);
-    CHECK(w.number == 1 && w.count == 0 && image[0] == 0xEE && image[39] == 0xEE);
+    CHECK(w.number == 1 && w.offset == 0 && w.count == 0 && image[0] == 0xEE && image[39] == 0xEE);
     w = knx_table_empty(image, LONG);
-    CHECK(w.number == 0 && w.count == 40 && image_is(BYTES(0), 0));
+    CHECK(w.number == 0 && w.offset == 0 && w.count == 40 && image_is(BYTES(0), 0));
     CHECK(call_refused(knx_table_open(image, 39, 21), 1) && image_is(BYTES(0), 0));
     CHECK(called(knx_table_open(image, LONG, 21), KNX_SAID_NOTHING, 0, 0, 0) && image_is(LENT(1, 21, 0, 0, 0)));
     CHECK(call_refused(knx_table_open(image, 42, 21), 7));
@@ -780,10 +845,10 @@ static void datagrams(void) {
     CHECK(image_is(LENT(1, 21, 0, 10, 0)) && untouched());
     /* refusals: image, frame, service, body, channel */
     CHECK(call_refused(knx_table_datagram(image, 39, LENT(0x06, 0x10, 0x04, 0x20, 0x00, 0x0A, 0x04, 21, 0, 0x00), out, 11), 1));
-    CHECK(call_refused(knx_table_datagram(image, 42, LENT(0x05, 0x20, 0x04, 0x20, 0x00, 0x06), out, 11), 2));
-    CHECK(call_refused(knx_table_datagram(image, 42, LENT(0x06, 0x10, 0x02, 0x05, 0x00, 0x06), out, 11), 12));
-    CHECK(call_refused(knx_table_datagram(image, 42, LENT(0x06, 0x10, 0x04, 0x20, 0x00, 0x06), out, 11), 1));
-    CHECK(call_refused(knx_table_datagram(image, 42, LENT(0x06, 0x10, 0x04, 0x20, 0x00, 0x0A, 0x04, 22, 0, 0x00), out, 11), 9));
+    CHECK(refused_at(knx_table_datagram(image, 42, LENT(0x05, 0x20, 0x04, 0x20, 0x00, 0x06), out, 11), 2, 0));
+    CHECK(refused_at(knx_table_datagram(image, 42, LENT(0x06, 0x10, 0x02, 0x05, 0x00, 0x06), out, 11), 12, 2));
+    CHECK(refused_at(knx_table_datagram(image, 42, LENT(0x06, 0x10, 0x04, 0x20, 0x00, 0x06), out, 11), 1, 6));
+    CHECK(refused_at(knx_table_datagram(image, 42, LENT(0x06, 0x10, 0x04, 0x20, 0x00, 0x0A, 0x04, 22, 0, 0x00), out, 11), 9, 7));
     CHECK(image_is(LENT(1, 21, 0, 10, 0)) && untouched());
 }
 
@@ -820,15 +885,50 @@ static void datagrams_standard(void) {
     CHECK(called(knx_table_datagram_standard(image, 42, LENT(ACK(10, 0x29)), out, 0), KNX_SAID_IGNORED, 0, 0, 0));
     /* refusals: image, frame, version, service, body, channel */
     CHECK(call_refused(knx_table_datagram_standard(image, 39, LENT(REQUEST(0)), out, 10), 1));
-    CHECK(call_refused(knx_table_datagram_standard(image, 42, BYTES(6), 0, out, 10), 1));
-    CHECK(call_refused(knx_table_datagram_standard(image, 42, LENT(0x05, 0x20, 0x04, 0x20, 0x00, 0x06), out, 10), 2));
-    CHECK(call_refused(knx_table_datagram_standard(image, 42, LENT(0x06, 0x20, 0x04, 0x20, 0x00, 0x06), out, 10), 3));
-    CHECK(call_refused(knx_table_datagram_standard(image, 42, LENT(0x06, 0x10, 0xFF, 0xFF, 0x00, 0x06), out, 10), 4));
-    CHECK(call_refused(knx_table_datagram_standard(image, 42, LENT(0x06, 0x10, 0x02, 0x08, 0x00, 0x08, 21, 0x00), out, 10), 12));
-    CHECK(call_refused(knx_table_datagram_standard(image, 42, LENT(0x06, 0x10, 0x04, 0x20, 0x00, 0x09, 0x04, 21, 0), out, 10), 1));
-    CHECK(call_refused(knx_table_datagram_standard(image, 42, LENT(0x06, 0x10, 0x04, 0x21, 0x00, 0x09, 0x04, 21, 10, 0x00), out, 10), 1));
-    CHECK(call_refused(knx_table_datagram_standard(image, 42, LENT(0x06, 0x10, 0x04, 0x20, 0x00, 0x0A, 0x04, 22, 0, 0x00), out, 10), 9));
-    CHECK(call_refused(knx_table_datagram_standard(image, 42, LENT(0x06, 0x10, 0x04, 0x21, 0x00, 0x0A, 0x04, 22, 0, 0x00), out, 10), 9));
+    CHECK(refused_at(knx_table_datagram_standard(image, 42, BYTES(6), 0, out, 10), 1, 0));
+    CHECK(refused_at(knx_table_datagram_standard(image, 42, LENT(0x05, 0x20, 0x04, 0x20, 0x00, 0x06), out, 10), 2, 0));
+    CHECK(refused_at(knx_table_datagram_standard(image, 42, LENT(0x06, 0x20, 0x04, 0x20, 0x00, 0x06), out, 10), 3, 1));
+    CHECK(refused_at(knx_table_datagram_standard(image, 42, LENT(0x06, 0x10, 0xFF, 0xFF, 0x00, 0x06), out, 10), 4, 2));
+    CHECK(refused_at(knx_table_datagram_standard(image, 42, LENT(0x06, 0x10, 0x02, 0x08, 0x00, 0x08, 21, 0x00), out, 10), 12, 2));
+    CHECK(refused_at(knx_table_datagram_standard(image, 42, LENT(0x06, 0x10, 0x04, 0x20, 0x00, 0x09, 0x04, 21, 0), out, 10), 1, 9));
+    CHECK(refused_at(knx_table_datagram_standard(image, 42, LENT(0x06, 0x10, 0x04, 0x21, 0x00, 0x09, 0x04, 21, 10, 0x00), out, 10), 1, 9));
+    CHECK(refused_at(knx_table_datagram_standard(image, 42, LENT(0x06, 0x10, 0x04, 0x20, 0x00, 0x0A, 0x04, 22, 0, 0x00), out, 10), 9, 7));
+    CHECK(refused_at(knx_table_datagram_standard(image, 42, LENT(0x06, 0x10, 0x04, 0x21, 0x00, 0x0A, 0x04, 22, 0, 0x00), out, 10), 9, 7));
+    CHECK(untouched() && image_is(LENT(1, 21, 0, 10, 0)));
+}
+
+/* Where a datagram is refused, in both forms: the fields of its header; the end that the total length gives a body
+ * that is too short, whatever stands behind it; the channel. Whatever else is lent, the offset stays. */
+static void places(void) {
+    KnxCalled (*const forms[])(uint8_t *, size_t, const uint8_t *, size_t, uint8_t *, size_t) = {knx_table_datagram_standard,
+                                                                                               knx_table_datagram};
+    static const struct {
+        uint8_t bytes[12];
+        uint8_t length, number, offset;
+    } rows[] = {
+        {{0x06, 0x10, 0x04, 0x20, 0x00}, 5, 1, 5},
+        {{0x05, 0x10, 0x04, 0x20, 0x00, 0x0A, 0x04, 21, 0, 0x00, 0xEE}, 11, 2, 0},
+        {{0x06, 0x20, 0x04, 0x20, 0x00, 0x0A, 0x04, 21, 0, 0x00, 0xEE}, 11, 3, 1},
+        {{0x06, 0x10, 0x04, 0x22, 0x00, 0x0A, 0x04, 21, 0, 0x00, 0xEE}, 11, 4, 2},
+        {{0x06, 0x10, 0x04, 0x20, 0x00, 0x05, 0x04, 21, 0, 0x00, 0xEE}, 11, 2, 4},
+        {{0x06, 0x10, 0x04, 0x20, 0x00, 0x0C, 0x04, 21, 0, 0x00, 0xEE}, 11, 2, 4},
+        {{0x06, 0x10, 0x02, 0x0A, 0x00, 0x0A, 0x04, 21, 0, 0x00, 0xEE}, 11, 12, 2},
+        {{0x06, 0x10, 0x04, 0x20, 0x00, 0x06, 0xFF}, 7, 1, 6},
+        {{0x06, 0x10, 0x04, 0x20, 0x00, 0x09, 0x04, 21, 0, 0x00, 0xEE}, 11, 1, 9},
+        {{0x06, 0x10, 0x04, 0x21, 0x00, 0x06, 0xFF}, 7, 1, 6},
+        {{0x06, 0x10, 0x04, 0x21, 0x00, 0x09, 0x04, 21, 0, 0x00, 0x00}, 11, 1, 9},
+        {{0x06, 0x10, 0x04, 0x20, 0x00, 0x0A, 0x04, 22, 0, 0x00, 0xEE}, 11, 9, 7},
+        {{0x06, 0x10, 0x04, 0x21, 0x00, 0x0B, 0x04, 22, 0, 0x00, 0x00, 0xEE}, 12, 9, 7},
+    };
+    set_image(LENT(1, 21, 0, 10, 0));
+    fill();
+    for (size_t form = 0; form < 2; form++)
+        for (size_t i = 0; i < sizeof rows / sizeof *rows; i++) {
+            const uint8_t *bytes = rows[i].bytes;
+            CHECK(refused_at(forms[form](image, 42, bytes, rows[i].length, out, 11), rows[i].number, rows[i].offset));
+            CHECK(refused_at(forms[form](image, 40, bytes, rows[i].length, out, 0), rows[i].number, rows[i].offset));
+            CHECK(call_refused(forms[form](image, 39, bytes, rows[i].length, out, 11), 1));
+        }
     CHECK(untouched() && image_is(LENT(1, 21, 0, 10, 0)));
 }
 
@@ -837,7 +937,7 @@ static void mixed_forms(void) {
     set_image(LENT(1, 21, 4, 6, 1, 1, 22, 1, 2, 1));
     fill();
     /* KNX's acknowledgement is too short for the crate's call */
-    CHECK(call_refused(knx_table_datagram(image, 42, LENT(ACK(6, 0x00)), out, 11), 1));
+    CHECK(refused_at(knx_table_datagram(image, 42, LENT(ACK(6, 0x00)), out, 11), 1, 10));
     CHECK(untouched() && image_is(LENT(1, 21, 4, 6, 1, 1, 22, 1, 2, 1)));
     /* one of five bytes is read by the fourth in KNX's call, by the fifth in the crate's */
     CHECK(called(knx_table_datagram_standard(image, 42, LENT(LONG_ACK(6, 0x29, 0x00)), out, 10), KNX_SAID_REPEAT, 0, 0, 0));
@@ -918,13 +1018,13 @@ static void session(void) {
     /* heartbeat: no affair of the table's */
     static const uint8_t beaten[] = {0x06, 0x10, 0x02, 0x08, 0x00, 0x08, 21, 0x21};
     fill();
-    CHECK(call_refused(knx_table_datagram_standard(image, KNX_TABLE_SIZE, beaten, sizeof beaten, out, 10), 12) && untouched());
+    CHECK(refused_at(knx_table_datagram_standard(image, KNX_TABLE_SIZE, beaten, sizeof beaten, out, 10), 12, 2) && untouched());
     f = knx_frame_parse(beaten, sizeof beaten);
     CHECK(frame_is(f, 6, 8, KNX_SERVICE_CONNECTIONSTATE_RESPONSE, 8, 0));
     CHECK(status_is(knx_connectionstate_response(beaten + f.start, f.end - f.start), 21, KNX_STATUS_CONNECTION_ID, 0));
     /* end: the gateway asks for it, and is answered */
     static const uint8_t ended[] = {0x06, 0x10, 0x02, 0x09, 0x00, 0x10, 21, 0x00, 0x08, 0x01, 192, 168, 1, 10, 0x0E, 0x57};
-    CHECK(call_refused(knx_table_datagram_standard(image, KNX_TABLE_SIZE, ended, sizeof ended, out, 10), 12) && untouched());
+    CHECK(refused_at(knx_table_datagram_standard(image, KNX_TABLE_SIZE, ended, sizeof ended, out, 10), 12, 2) && untouched());
     f = knx_frame_parse(ended, sizeof ended);
     CHECK(frame_is(f, 6, 16, KNX_SERVICE_DISCONNECT_REQUEST, 16, 0));
     KnxDisconnectRequest d = knx_disconnect_request_parse(ended + f.start, f.end - f.start);
@@ -973,6 +1073,7 @@ int main(void) {
     waiting();
     datagrams();
     datagrams_standard();
+    places();
     mixed_forms();
     session();
     odd_images();

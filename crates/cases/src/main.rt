@@ -1,5 +1,5 @@
 // 01's cases on both sides that are run and not proved: one line for each, with its number and, where that is 0, the length that is answered.
-// Then an area of a quarter of a million records: no proof speaks of the stack that reading it takes.
+// Then an area of a quarter of a million records: no proof speaks of the stack that reading it takes. A refusal of the area is shown with its offset.
 use additional_info::AdditionalInfoAnswer;
 use additional_info::CountAnswer;
 use constants::ServiceType;
@@ -10,6 +10,7 @@ use libc::STDERR_FILENO;
 use libc::STDOUT_FILENO;
 use tunnelling::ConnectionHeader;
 use tunnelling::TunnelingRequest;
+use wire::Fault;
 use wire::Written;
 
 fn row(name: &[u8], number: u8, size: usize) {
@@ -23,6 +24,16 @@ fn row(name: &[u8], number: u8, size: usize) {
     io::write_all(STDOUT_FILENO, b"\n");
 }
 
+fn refused(name: &[u8], fault: Fault) {
+    io::write_all(STDOUT_FILENO, name);
+    io::write_all(STDOUT_FILENO, b": ");
+    let why = fault.why;
+    io::print_decimal(STDOUT_FILENO, why.number() as u64);
+    io::write_all(STDOUT_FILENO, b" at ");
+    io::print_decimal(STDOUT_FILENO, fault.at as u64);
+    io::write_all(STDOUT_FILENO, b"\n");
+}
+
 fn written(name: &[u8], answer: Written) {
     match answer {
         Written::Bytes(size) => row(name, 0, size),
@@ -33,7 +44,10 @@ fn written(name: &[u8], answer: Written) {
 fn header(name: &[u8], body_length: usize) {
     match KnxnetIpHeader::new(ServiceType::TunnellingRequest, body_length) {
         HeaderAnswer::Header(made) => row(name, 0, made.total_length as usize),
-        HeaderAnswer::Refused(why) => row(name, why.number(), 0),
+        HeaderAnswer::Refused(fault) => {
+            let why = fault.why;
+            row(name, why.number(), 0);
+        }
     }
 }
 
@@ -67,7 +81,7 @@ fn builders(bytes: &[u8], buf: &mut [u8]) {
 fn count(name: &[u8], area: &[u8]) {
     match additional_info::count(area) {
         CountAnswer::Count(many) => row(name, 0, many),
-        CountAnswer::Refused(why) => row(name, why.number(), 0),
+        CountAnswer::Refused(fault) => refused(name, fault),
     }
 }
 
@@ -76,7 +90,7 @@ fn nth(name: &[u8], area: &[u8], n: usize) {
     match additional_info::nth(area, n) {
         AdditionalInfoAnswer::Record(info) => row(name, 0, info.end),
         AdditionalInfoAnswer::None => row(name, 0, 0),
-        AdditionalInfoAnswer::Refused(why) => row(name, why.number(), 0),
+        AdditionalInfoAnswer::Refused(fault) => refused(name, fault),
     }
 }
 

@@ -42,7 +42,7 @@ fn message_code_from(args: &[u8]) -> Told {
             2,
             [variants::message_code(m), m.to_u8() as usize, 0, 0],
         ),
-        CEMIMessageCodeAnswer::Refused(why) => replay::refused(why, 2),
+        CEMIMessageCodeAnswer::Refused(fault) => replay::refused(fault, 2),
     }
 }
 

@@ -36,7 +36,7 @@ pub(crate) fn cri_encode(args: &[u8], buf: &mut [u8]) -> Told {
 pub(crate) fn cri_decode(args: &[u8]) -> Told {
     match ConnectionRequestInfo::decode(args) {
         ConnectionRequestInfoAnswer::Info(c) => cri(c),
-        ConnectionRequestInfoAnswer::Refused(why) => replay::refused(why, 2),
+        ConnectionRequestInfoAnswer::Refused(fault) => replay::refused(fault, 2),
     }
 }
 
@@ -62,7 +62,7 @@ fn response(r: ConnectResponseAnswer) -> Told {
     let c = r.response;
     let h = c.data_endpoint;
     let crd = c.crd;
-    let mut t = hpai_calls::told(r.number, h);
+    let mut t = hpai_calls::told(r.number, r.offset, h);
     t.count = 14;
     t.values[7] = c.channel_id as usize;
     t.values[8] = c.status as usize;
@@ -108,7 +108,7 @@ pub(crate) fn state_build(args: &[u8], buf: &mut [u8]) -> Told {
 pub(crate) fn state_parse(args: &[u8]) -> Told {
     match ConnectionStateResponse::parse(args) {
         ConnectionStateAnswer::Response(c) => status(c.channel_id, c.status, c.is_ok()),
-        ConnectionStateAnswer::Refused(why) => replay::refused(why, 3),
+        ConnectionStateAnswer::Refused(fault) => replay::refused(fault, 3),
     }
 }
 
@@ -122,7 +122,7 @@ pub(crate) fn disconnect_build(args: &[u8], buf: &mut [u8]) -> Told {
 pub(crate) fn disconnect_parse(args: &[u8]) -> Told {
     match DisconnectResponse::parse(args) {
         DisconnectAnswer::Response(c) => status(c.channel_id, c.status, c.is_ok()),
-        DisconnectAnswer::Refused(why) => replay::refused(why, 3),
+        DisconnectAnswer::Refused(fault) => replay::refused(fault, 3),
     }
 }
 
@@ -131,7 +131,7 @@ pub(crate) fn disconnect_request_parse(args: &[u8]) -> Told {
     let r = DisconnectRequest::parse(args);
     let q = r.request;
     let h = q.control_endpoint;
-    let mut t = hpai_calls::told(r.number, h);
+    let mut t = hpai_calls::told(r.number, r.offset, h);
     let seven = t.values;
     t.count = 8;
     t.values[0] = q.channel_id as usize;

@@ -2,10 +2,10 @@
 use hpai::Hpai;
 use replay::Told;
 
-// The seven values of an Hpai.
-pub(crate) fn told(number: u8, h: Hpai) -> Told {
+// The seven values of an Hpai, and the offset of a refusal.
+pub(crate) fn told(number: u8, offset: usize, h: Hpai) -> Told {
     let ip = h.ip_address;
-    Told {
+    let seven = Told {
         number,
         count: 7,
         values: [
@@ -27,7 +27,10 @@ pub(crate) fn told(number: u8, h: Hpai) -> Told {
             0,
         ],
         lends: false,
-    }
+        refusals: 0,
+        offsets: [0; 4],
+    };
+    replay::located(seven, number, offset)
 }
 
 fn address_at(args: &[u8], from: usize) -> [u8; 4] {
@@ -53,13 +56,13 @@ pub(crate) fn read_at(args: &[u8], from: usize) -> Hpai {
 }
 
 pub(crate) fn new(args: &[u8]) -> Told {
-    told(0, Hpai::new(address_at(args, 0), wire::word_at(args, 4)))
+    told(0, 0, Hpai::new(address_at(args, 0), wire::word_at(args, 4)))
 }
 
 pub(crate) fn parse(args: &[u8]) -> Told {
     let r = Hpai::parse(args);
     let h = r.hpai;
-    told(r.number, h)
+    told(r.number, r.offset, h)
 }
 
 pub(crate) fn encode(args: &[u8], buf: &mut [u8]) -> Told {

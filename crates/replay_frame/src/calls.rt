@@ -28,7 +28,7 @@ fn service_from(args: &[u8]) -> Told {
             2,
             [variants::service(s), s.to_u16() as usize, 0, 0],
         ),
-        ServiceAnswer::Refused(why) => replay::refused(why, 2),
+        ServiceAnswer::Refused(fault) => replay::refused(fault, 2),
     }
 }
 
@@ -54,7 +54,7 @@ fn header(h: KnxnetIpHeader, count: usize) -> Told {
 fn header_answer(a: HeaderAnswer) -> Told {
     match a {
         HeaderAnswer::Header(h) => header(h, 5),
-        HeaderAnswer::Refused(why) => replay::refused(why, 5),
+        HeaderAnswer::Refused(fault) => replay::refused(fault, 5),
     }
 }
 
@@ -90,7 +90,7 @@ fn header_body_length(args: &[u8]) -> Told {
 fn frame_parse(args: &[u8]) -> Told {
     match FrameFields::parse(args) {
         FrameAnswer::Frame(f) => frame(f, args),
-        FrameAnswer::Refused(why) => replay::refused(why, 13),
+        FrameAnswer::Refused(fault) => replay::refused(fault, 13),
     }
 }
 
@@ -114,7 +114,7 @@ fn frame(f: FrameFields, args: &[u8]) -> Told {
 fn frame_header(a: HeaderAnswer) -> Told {
     match a {
         HeaderAnswer::Header(h) => header(h, 13),
-        HeaderAnswer::Refused(why) => replay::refused(why, 13),
+        HeaderAnswer::Refused(fault) => replay::refused(fault, 13),
     }
 }
 

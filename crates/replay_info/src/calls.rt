@@ -49,7 +49,7 @@ fn record(answer: AdditionalInfoAnswer, area: &[u8]) -> Told {
             told
         }
         AdditionalInfoAnswer::None => replay::few(9, [0; 4]),
-        AdditionalInfoAnswer::Refused(why) => replay::refused(why, 9),
+        AdditionalInfoAnswer::Refused(fault) => replay::refused(fault, 9),
     }
 }
 
@@ -70,7 +70,7 @@ fn value(timestamp: Timestamp) -> usize {
 fn count(args: &[u8]) -> Told {
     match additional_info::count(args) {
         CountAnswer::Count(n) => replay::few(1, [n, 0, 0, 0]),
-        CountAnswer::Refused(why) => replay::refused(why, 1),
+        CountAnswer::Refused(fault) => replay::refused(fault, 1),
     }
 }
 
@@ -101,9 +101,9 @@ fn area(args: &[u8]) -> Told {
             let rest = replay::remainder(f.additional_info_part(args));
             let mut told = replay::few(3, [view.start, view.end, rest, 0]);
             told.number = view.number;
-            told
+            replay::located(told, view.number, view.offset)
         }
-        CEMIAnswer::Refused(why) => replay::refused(why, 3),
+        CEMIAnswer::Refused(fault) => replay::refused(fault, 3),
     }
 }
 

@@ -57,13 +57,15 @@ fn fields(f: LDataFields, start: usize, end: usize, rest: usize) -> Told {
             0,
         ],
         lends: false,
+        refusals: 0,
+        offsets: [0; 4],
     }
 }
 
 fn ldata_parse(counting: Counting, args: &[u8]) -> Told {
     match parsed(counting, args) {
         LDataAnswer::Frame(f) => ldata(counting, f, args),
-        LDataAnswer::Refused(why) => replay::refused(why, 15),
+        LDataAnswer::Refused(fault) => replay::refused(fault, 15),
     }
 }
 
@@ -104,7 +106,7 @@ fn individual(f: LDataFields) -> usize {
 fn cemi_parse(args: &[u8]) -> Told {
     match CEMIFrame::parse(args) {
         CEMIAnswer::Frame(f) => cemi(f, args),
-        CEMIAnswer::Refused(why) => replay::refused(why, 4),
+        CEMIAnswer::Refused(fault) => replay::refused(fault, 4),
     }
 }
 
@@ -120,14 +122,14 @@ fn cemi(f: CEMIFrame, args: &[u8]) -> Told {
                 replay::flag(f.is_ldata()),
             ],
         ),
-        InfoLengthAnswer::Refused(why) => replay::refused(why, 4),
+        InfoLengthAnswer::Refused(fault) => replay::refused(fault, 4),
     }
 }
 
 fn service_info(args: &[u8]) -> Told {
     match CEMIFrame::parse(args) {
         CEMIAnswer::Frame(f) => shown(f, args),
-        CEMIAnswer::Refused(why) => replay::refused(why, 3),
+        CEMIAnswer::Refused(fault) => replay::refused(fault, 3),
     }
 }
 
@@ -136,13 +138,13 @@ fn shown(f: CEMIFrame, args: &[u8]) -> Told {
     let rest = replay::remainder(f.service_info_part(args));
     let mut t = replay::few(3, [view.start, view.end, rest, 0]);
     t.number = view.number;
-    t
+    replay::located(t, view.number, view.offset)
 }
 
 fn as_ldata(counting: Counting, args: &[u8]) -> Told {
     match CEMIFrame::parse(args) {
         CEMIAnswer::Frame(f) => inside(counting, f, args, 12),
-        CEMIAnswer::Refused(why) => replay::refused(why, 12),
+        CEMIAnswer::Refused(fault) => replay::refused(fault, 12),
     }
 }
 
@@ -160,7 +162,7 @@ fn inside(counting: Counting, f: CEMIFrame, args: &[u8], count: usize) -> Told {
                 replay::remainder(data_part(counting, l, part)),
             )
         }
-        LDataAnswer::Refused(why) => replay::refused(why, count),
+        LDataAnswer::Refused(fault) => replay::refused(fault, count),
     }
 }
 
@@ -169,7 +171,7 @@ fn as_ldata_set(args: &[u8]) -> Told {
     let whole = wire::part(args, 1, args.len());
     match CEMIFrame::parse(whole) {
         CEMIAnswer::Frame(_) => set(wire::byte_at(args, 0), whole),
-        CEMIAnswer::Refused(why) => replay::refused(why, 13),
+        CEMIAnswer::Refused(fault) => replay::refused(fault, 13),
     }
 }
 

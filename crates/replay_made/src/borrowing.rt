@@ -8,6 +8,7 @@ use ldata::Counting;
 use ldata::LDataAnswer;
 use ldata::LDataFields;
 use replay::Told;
+use wire::Fault;
 use wire::View;
 
 // The refusal that the record holds, 0 for none, then the fields and the bytes that it holds.
@@ -18,7 +19,7 @@ pub(crate) fn body(args: &[u8]) -> Told {
     if refused == 0 {
         return view(borrowed::body_view(data, FrameAnswer::Frame(fields)), data);
     }
-    let answer = FrameAnswer::Refused(variants::refusal_of(refused));
+    let answer = FrameAnswer::Refused(held(refused));
     view(borrowed::body_view(data, answer), data)
 }
 
@@ -41,7 +42,16 @@ fn answer(args: &[u8]) -> LDataAnswer {
     if refused == 0 {
         return LDataAnswer::Frame(fields(args));
     }
-    LDataAnswer::Refused(variants::refusal_of(refused))
+    LDataAnswer::Refused(held(refused))
+}
+
+// A refusal that no parse made, at an offset that differs from number to number.
+fn held(number: u8) -> Fault {
+    let why = variants::refusal_of(number);
+    Fault {
+        why,
+        at: 100 + number as usize,
+    }
 }
 
 fn fields(args: &[u8]) -> LDataFields {
@@ -61,10 +71,10 @@ fn fields(args: &[u8]) -> LDataFields {
     }
 }
 
-// Where a part stands, and its remainder.
+// Where a part stands, and its remainder, or why there is none.
 fn view(v: View, data: &[u8]) -> Told {
     let rest = replay::remainder(wire::part(data, v.start, v.end));
     let mut t = replay::few(3, [v.start, v.end, rest, 0]);
     t.number = v.number;
-    t
+    replay::located(t, v.number, v.offset)
 }

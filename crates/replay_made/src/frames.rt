@@ -17,15 +17,13 @@ pub(crate) fn fields_at(args: &[u8]) -> FrameFields {
     FrameFields { header }
 }
 
-// Each accessor's own number stands before its values.
+// Each accessor's own number stands before its values. The offsets of those that refuse come in the same order.
 pub(crate) fn accessors(args: &[u8]) -> Told {
     let f = fields_at(args);
     let slice = wire::part(args, 5, args.len());
     let body = f.body(slice);
     let data = f.data(slice);
-    let mut t = header(f.header(slice));
-    t.values[5] = service_refused(f.service_type(slice));
-    t.values[6] = service(f.service_type(slice));
+    let mut t = service(header(f.header(slice)), f.service_type(slice));
     t.values[7] = body.number as usize;
     t.values[8] = body.start;
     t.values[9] = body.end;
@@ -34,7 +32,8 @@ pub(crate) fn accessors(args: &[u8]) -> Told {
     t.values[12] = data.start;
     t.values[13] = data.end;
     t.values[14] = replay::remainder(f.data_part(slice));
-    t
+    let after_body = replay::located(t, body.number, body.offset);
+    replay::located(after_body, data.number, data.offset)
 }
 
 fn header(a: HeaderAnswer) -> Told {
@@ -53,20 +52,31 @@ fn header(a: HeaderAnswer) -> Told {
             t.values[4] = h.total_length as usize;
             t
         }
-        HeaderAnswer::Refused(why) => replay::few(15, [why.number() as usize, 0, 0, 0]),
+        HeaderAnswer::Refused(fault) => {
+            let why = fault.why;
+            let number = why.number();
+            replay::located(
+                replay::few(15, [number as usize, 0, 0, 0]),
+                number,
+                fault.at,
+            )
+        }
     }
 }
 
-fn service_refused(a: ServiceAnswer) -> usize {
+// The service type behind the header's values.
+fn service(headed: Told, a: ServiceAnswer) -> Told {
+    let mut t = headed;
     match a {
-        ServiceAnswer::Service(_) => 0,
-        ServiceAnswer::Refused(why) => why.number() as usize,
-    }
-}
-
-fn service(a: ServiceAnswer) -> usize {
-    match a {
-        ServiceAnswer::Service(s) => variants::service(s),
-        ServiceAnswer::Refused(_) => 0,
+        ServiceAnswer::Service(s) => {
+            t.values[6] = variants::service(s);
+            t
+        }
+        ServiceAnswer::Refused(fault) => {
+            let why = fault.why;
+            let number = why.number();
+            t.values[5] = number as usize;
+            replay::located(t, number, fault.at)
+        }
     }
 }

@@ -17,7 +17,7 @@ fn frame_at(args: &[u8]) -> CEMIFrame {
     CEMIFrame { message_code }
 }
 
-// Each accessor's own number stands before its values.
+// Each accessor's own number stands before its values. The offsets of those that refuse come in the same order.
 pub(crate) fn cemi(args: &[u8]) -> Told {
     let f = frame_at(args);
     let slice = wire::part(args, 1, args.len());
@@ -29,13 +29,17 @@ pub(crate) fn cemi(args: &[u8]) -> Told {
     t.values[5] = info.start;
     t.values[6] = info.end;
     t.values[7] = replay::remainder(f.service_info_part(slice));
-    t
+    replay::located(t, info.number, info.offset)
 }
 
 fn info_length(a: InfoLengthAnswer) -> Told {
     match a {
         InfoLengthAnswer::Length(n) => replay::few(8, [0, 0, 0, n as usize]),
-        InfoLengthAnswer::Refused(why) => replay::few(8, [0, 0, why.number() as usize, 0]),
+        InfoLengthAnswer::Refused(fault) => {
+            let why = fault.why;
+            let number = why.number();
+            replay::located(replay::few(8, [0, 0, number as usize, 0]), number, fault.at)
+        }
     }
 }
 
@@ -44,7 +48,7 @@ pub(crate) fn as_ldata(args: &[u8]) -> Told {
     let slice = wire::part(args, 1, args.len());
     match f.as_ldata(slice) {
         LDataAnswer::Frame(l) => inside(l, f.service_info(slice).start, f.service_info_part(slice)),
-        LDataAnswer::Refused(why) => replay::refused(why, 12),
+        LDataAnswer::Refused(fault) => replay::refused(fault, 12),
     }
 }
 
@@ -113,7 +117,7 @@ fn asked(f: LDataFields, view: View, part: &[u8]) -> Told {
     t.values[4] = asks(f);
     t.values[5] = group(f);
     t.values[6] = individual(f);
-    t
+    replay::located(t, view.number, view.offset)
 }
 
 // What a frame asks of a group: 1 for a write, 2 for a read, 4 for a response, added up.

@@ -18,7 +18,7 @@ pub(crate) struct Carried {
 pub(crate) fn answer(call: u8, args: &[u8], buf: &mut [u8], table: Table) -> Carried {
     let id = wire::byte_at(args, 0);
     match call {
-        46 => with_places(0, [0; 4], false, table_of(args)),
+        46 => with_places(0, 0, [0; 4], false, table_of(args)),
         47 => called(table.open(id), false),
         48 => called(table.close(id), false),
         49 => called(table.timeout(id), false),
@@ -118,6 +118,7 @@ fn called(c: Called, lends: bool) -> Carried {
     let table = c.table;
     with_places(
         c.number,
+        c.offset,
         [said_number(said), c.start, c.end, c.written],
         lends,
         table,
@@ -125,9 +126,9 @@ fn called(c: Called, lends: bool) -> Carried {
 }
 
 // The places after the call stand behind four values.
-fn with_places(number: u8, four: [usize; 4], lends: bool, table: Table) -> Carried {
+fn with_places(number: u8, offset: usize, four: [usize; 4], lends: bool, table: Table) -> Carried {
     let places = table.places;
-    let told = Told {
+    let twelve = Told {
         number,
         count: 12,
         values: [
@@ -149,6 +150,11 @@ fn with_places(number: u8, four: [usize; 4], lends: bool, table: Table) -> Carri
             0,
         ],
         lends,
+        refusals: 0,
+        offsets: [0; 4],
     };
-    Carried { told, table }
+    Carried {
+        told: replay::located(twelve, number, offset),
+        table,
+    }
 }

@@ -33,7 +33,7 @@ fn header_encode(args: &[u8], buf: &mut [u8]) -> Told {
 fn header_decode(args: &[u8]) -> Told {
     match ConnectionHeader::decode(args) {
         ConnectionHeaderAnswer::Header(h) => told(h, 2, 0, 0),
-        ConnectionHeaderAnswer::Refused(why) => replay::refused(why, 2),
+        ConnectionHeaderAnswer::Refused(fault) => replay::refused(fault, 2),
     }
 }
 
@@ -45,7 +45,7 @@ fn request_build(args: &[u8], buf: &mut [u8]) -> Told {
 fn request_parse(args: &[u8]) -> Told {
     match TunnelingRequest::parse(args) {
         TunnelingRequestAnswer::Request(q) => request(q, args),
-        TunnelingRequestAnswer::Refused(why) => replay::refused(why, 5),
+        TunnelingRequestAnswer::Refused(fault) => replay::refused(fault, 5),
     }
 }
 
@@ -84,7 +84,7 @@ fn ack(answer: TunnelingAckAnswer) -> Told {
             a.status as usize,
             replay::flag(a.is_ok()),
         ),
-        TunnelingAckAnswer::Refused(why) => replay::refused(why, 4),
+        TunnelingAckAnswer::Refused(fault) => replay::refused(fault, 4),
     }
 }
 
