@@ -76,7 +76,7 @@ impl<R: Shared> Work for Reads<R> {
     fn batch(&mut self, side: usize) {
         let read = black_box(self.sides[side]);
         for input in &self.inputs {
-            black_box(unsafe { read(input.as_ptr(), input.len()) });
+            black_box(&unsafe { read(input.as_ptr(), input.len()) });
         }
     }
 
@@ -105,7 +105,7 @@ impl Work for Nths {
     fn batch(&mut self, side: usize) {
         let nth = black_box(NTH[side]);
         for &(area, n) in &self.asked {
-            black_box(unsafe { nth(area.as_ptr(), area.len(), n) });
+            black_box(&unsafe { nth(area.as_ptr(), area.len(), n) });
         }
     }
 
@@ -185,7 +185,7 @@ impl<B: Build> Work for Builds<B> {
     fn batch(&mut self, side: usize) {
         let side = black_box(self.sides[side]);
         for body in &self.bodies {
-            black_box(side.build(body, &mut self.out));
+            black_box(&side.build(body, &mut self.out));
         }
     }
 
@@ -247,7 +247,7 @@ impl Work for Datagrams {
         let (datagram, memories) = (black_box(self.sides[side]), &mut self.now[side]);
         let mask = memories.len() - 1;
         for (i, input) in self.inputs.iter().enumerate() {
-            black_box(call(datagram, &mut memories[i & mask], input, &mut self.out));
+            black_box(&call(datagram, &mut memories[i & mask], input, &mut self.out));
         }
     }
 

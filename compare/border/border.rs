@@ -4,9 +4,9 @@
 #[repr(C)]
 #[derive(Clone, Copy, Debug, Default, PartialEq)]
 pub struct KnxFrame {
+    pub offset: usize,
     pub start: usize,
     pub end: usize,
-    pub offset: usize,
     pub service: u16,
     pub total: u16,
     pub number: u8,
@@ -61,9 +61,9 @@ pub struct KnxDisconnectRequest {
 #[repr(C)]
 #[derive(Clone, Copy, Debug, Default, PartialEq)]
 pub struct KnxLData {
+    pub offset: usize,
     pub start: usize,
     pub end: usize,
-    pub offset: usize,
     pub source: u16,
     pub destination: u16,
     pub apci_code: u16,
@@ -82,18 +82,18 @@ pub struct KnxLData {
 #[repr(C)]
 #[derive(Clone, Copy, Debug, Default, PartialEq)]
 pub struct KnxPart {
+    pub offset: usize,
     pub start: usize,
     pub end: usize,
-    pub offset: usize,
     pub number: u8,
 }
 
 #[repr(C)]
 #[derive(Clone, Copy, Debug, Default, PartialEq)]
 pub struct KnxAdditionalInfo {
+    pub offset: usize,
     pub start: usize,
     pub end: usize,
-    pub offset: usize,
     pub timestamp: u32,
     pub found: u8,
     pub named: u8,
@@ -105,8 +105,8 @@ pub struct KnxAdditionalInfo {
 #[repr(C)]
 #[derive(Clone, Copy, Debug, Default, PartialEq)]
 pub struct KnxCount {
-    pub count: usize,
     pub offset: usize,
+    pub count: usize,
     pub number: u8,
 }
 
@@ -114,7 +114,7 @@ pub struct KnxCount {
 #[derive(Clone, Copy, Debug, Default, PartialEq)]
 pub struct KnxWritten {
     pub count: usize,
-    pub offset: usize,
+    pub offset: u32,
     pub number: u8,
 }
 
@@ -128,10 +128,10 @@ pub struct KnxEndpoint {
 #[repr(C)]
 #[derive(Clone, Copy, Debug, Default, PartialEq)]
 pub struct KnxCalled {
+    pub offset: usize,
     pub start: usize,
     pub end: usize,
     pub written: usize,
-    pub offset: usize,
     pub said: u8,
     pub number: u8,
 }

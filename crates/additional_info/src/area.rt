@@ -15,10 +15,10 @@ pub enum Timestamp {
 
 // One record: its type, its timestamp, and where its data stands in the area. What remains starts at `end`.
 pub struct AdditionalInfo {
-    pub info_type: AdditionalInfoType,
-    pub timestamp: Timestamp,
     pub start: usize,
     pub end: usize,
+    pub info_type: AdditionalInfoType,
+    pub timestamp: Timestamp,
 }
 
 pub enum AdditionalInfoAnswer {

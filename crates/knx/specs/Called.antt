@@ -56,9 +56,11 @@ EmptyPromise image r after = Tells (PackPromise (emptyOf kind 8) image) r after
 
 -- ---- the code's parts
 
-abbrev pub KeepPromise : Called → List ℕ → KnxCalled → List ℕ → Type 0
-KeepPromise q image r after =
-    (told r ≡ Table.told q) × (after ≡ cond (eqb (q .number) 0) (leaves (room (length (packed (q .table .places))) (length image) ∷ []) (packed (q .table .places)) image) image)
+abbrev pub KeepPromise : Called → List ℕ → List ℕ → Type 0
+KeepPromise q image after = after ≡ cond (eqb (q .number) 0) (leaves (room (length (packed (q .table .places))) (length image) ∷ []) (packed (q .table .places)) image) image
+
+abbrev pub CalledPromise : Called → KnxCalled → Type 0
+CalledPromise q r = told r ≡ Table.told q
 
 abbrev pub RefusedPromise : Fault → KnxCalled → Type 0
 RefusedPromise e r = told r ≡ refused 2 e

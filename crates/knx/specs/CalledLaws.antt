@@ -31,7 +31,7 @@ use Rattle.tunnel_model.specs.Table.{chan, storeOf, emptyOf}
 use Rattle.tunnel_table.specs.Places.{kind}
 use Rattle.tunnel_image.specs.Image.{packed, unpacked, UnpackPromise, PackPromise, packedOnto, stepIn}
 use Rattle.tunnel_image.specs.ImageLaws.{forty, in-long, on-small, on-enough, LeavesImage, image-leaves, pack-one}
-use Rattle.knx.specs.Called.{told, CallPromise, KeepPromise, RefusedPromise, EmptyPromise}
+use Rattle.knx.specs.Called.{told, CallPromise, KeepPromise, CalledPromise, RefusedPromise, EmptyPromise}
 use Rattle.tunnel_image.specs.Demand3.{emptyImage}
 use Rattle.knx.specs.Building.{WrittenPromise}
 use Rattle.knx.specs.BuildingLaws.{tells-one}
@@ -51,14 +51,14 @@ unheard-call f image bytes out e r enough h p =
 
 -- the image is unpacked, the table is called, and what it gave is kept
 pub packed-call : (image : List ℕ) (c : Call) (t : Table) (q : Called) (out : List ℕ) (r : KnxCalled) (after : List ℕ) → 40 ≤ length image
-    → UnpackPromise image t → Table.CallPromise t c q out → KeepPromise q image r after → CallPromise image c r after out
-packed-call image c t q out r after enough u p k =
+    → UnpackPromise image t → Table.CallPromise t c q out → KeepPromise q image after → CalledPromise q r → CallPromise image c r after out
+packed-call image c t q out r after enough u p k tells =
     let l : List Place = q .table .places in
     let stepped : Table.calledAs q out ≡ stepIn image c = p ∙ ap (λ (m : List Place). step chan (storeOf kind) m c) u in
     let long : length (packed l) ≡ 40 = forty l (ap (λ (x : Outcome × List Place). length (x .1)) stepped ∙ in-long image c) in
     let fits : leaves (room (length (packed l)) (length image) ∷ []) (packed l) image ≡ onto image (packed l) = simp (le-ltb (length image) (length (packed l)) (omega (arith, long))) in
-    ap (λ (x : Told). ((x, out), after)) (k .0)
-    ∙ ap (λ (s : List ℕ). ((Table.told q, out), s)) (k .1 ∙ ap (λ (s : List ℕ). cond (eqb (q .number) 0) s image) fits)
+    ap (λ (x : Told). ((x, out), after)) tells
+    ∙ ap (λ (s : List ℕ). ((Table.told q, out), s)) (k ∙ ap (λ (s : List ℕ). cond (eqb (q .number) 0) s image) fits)
     ∙ ap (packedOnto image) stepped
     ∙ sym (on-enough image c enough)
 

@@ -22,7 +22,7 @@ use wire::Written;
 #[repr(C)]
 pub struct KnxWritten {
     pub count: usize,
-    pub offset: usize,
+    pub offset: u32,
     pub number: u8,
 }
 

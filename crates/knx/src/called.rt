@@ -1,6 +1,6 @@
 // The calls on a table of eight tunnels, over the byte image that the host lends.
 ghost use Rattle.wire.specs.Told.{nowhere};
-ghost use Rattle.knx.specs.Called.{KeepPromise, EmptyPromise, RefusedPromise, OpenPromise, ClosePromise, TimeoutPromise, SendPromise, DatagramPromise, DatagramStandardPromise, DatagramInPromise};
+ghost use Rattle.knx.specs.Called.{KeepPromise, CalledPromise, EmptyPromise, RefusedPromise, OpenPromise, ClosePromise, TimeoutPromise, SendPromise, DatagramPromise, DatagramStandardPromise, DatagramInPromise};
 use crate::building;
 use crate::building::KnxWritten;
 use tunnel_datagram::Heard;
@@ -13,10 +13,10 @@ use wire::Refusal;
 // A number of 01 and, beside 0, what is said, the view and the count of bytes written to the output; else the offset of the field that decided.
 #[repr(C)]
 pub struct KnxCalled {
+    pub offset: usize,
     pub start: usize,
     pub end: usize,
     pub written: usize,
-    pub offset: usize,
     pub said: u8,
     pub number: u8,
 }
@@ -37,7 +37,9 @@ pub extern "C" fn knx_table_open(image: &mut [u8], id: u8) -> KnxCalled
     if image.len() < tunnel_image::SIZE {
         return refused(Refusal::BufferTooSmall);
     }
-    keep(tunnel_image::unpack(image).open(id), image)
+    let answer = tunnel_image::unpack(image).open(id);
+    keep(answer, image);
+    called(answer)
 }
 
 #[no_mangle]
@@ -47,7 +49,9 @@ pub extern "C" fn knx_table_close(image: &mut [u8], id: u8) -> KnxCalled
     if image.len() < tunnel_image::SIZE {
         return refused(Refusal::BufferTooSmall);
     }
-    keep(tunnel_image::unpack(image).close(id), image)
+    let answer = tunnel_image::unpack(image).close(id);
+    keep(answer, image);
+    called(answer)
 }
 
 #[no_mangle]
@@ -57,7 +61,9 @@ pub extern "C" fn knx_table_timeout(image: &mut [u8], id: u8) -> KnxCalled
     if image.len() < tunnel_image::SIZE {
         return refused(Refusal::BufferTooSmall);
     }
-    keep(tunnel_image::unpack(image).timeout(id), image)
+    let answer = tunnel_image::unpack(image).timeout(id);
+    keep(answer, image);
+    called(answer)
 }
 
 #[no_mangle]
@@ -67,7 +73,9 @@ pub extern "C" fn knx_table_send(image: &mut [u8], id: u8, cemi: &[u8], out: &mu
     if image.len() < tunnel_image::SIZE {
         return refused(Refusal::BufferTooSmall);
     }
-    keep(tunnel_image::unpack(image).send(id, cemi, out), image)
+    let answer = tunnel_image::unpack(image).send(id, cemi, out);
+    keep(answer, image);
+    called(answer)
 }
 
 #[no_mangle]
@@ -100,31 +108,35 @@ fn table_datagram_in(form: Form, image: &mut [u8], bytes: &[u8], out: &mut [u8])
     if let Heard::Refused(fault) = heard {
         return refused_at(fault);
     }
-    keep(
-        tunnel_image::unpack(image).heard_in(form, heard, out),
-        image,
-    )
+    let answer = tunnel_image::unpack(image).heard_in(form, heard, out);
+    keep(answer, image);
+    called(answer)
 }
 
-// What a call on the table gave, as numbers; the table is packed again unless the call was refused.
-fn keep(called: Called, image: &mut [u8]) -> KnxCalled
-    ensures { λ r. ⌜ KeepPromise called (now (image .entry)) r (now (image .exit)) ⌝ }
+// The table is packed again unless the call was refused.
+fn keep(answer: Called, image: &mut [u8])
+    ensures { λ _. ⌜ KeepPromise answer (now (image .entry)) (now (image .exit)) ⌝ }
 {
-    let said = called.said;
-    let table = called.table;
+    let table = answer.table;
     let places = table.places;
-    let answer = KnxCalled {
-        start: called.start,
-        end: called.end,
-        written: called.written,
-        offset: called.offset,
-        said: said.number(),
-        number: called.number,
-    };
-    if called.number == 0 {
+    if answer.number == 0 {
         tunnel_image::pack(places, image);
     }
-    answer
+}
+
+// What a call on the table gave, as numbers.
+fn called(answer: Called) -> KnxCalled
+    ensures { λ r. ⌜ CalledPromise answer r ⌝ }
+{
+    let said = answer.said;
+    KnxCalled {
+        offset: answer.offset,
+        start: answer.start,
+        end: answer.end,
+        written: answer.written,
+        said: said.number(),
+        number: answer.number,
+    }
 }
 
 // No field of a datagram decides that an image is too short.
@@ -139,10 +151,10 @@ fn refused_at(fault: Fault) -> KnxCalled
 {
     let why = fault.why;
     KnxCalled {
+        offset: fault.at,
         start: 0,
         end: 0,
         written: 0,
-        offset: fault.at,
         said: 0,
         number: why.number(),
     }

@@ -13,9 +13,9 @@ use wire::Fault;
 // A number of 01 and, beside 0, the fields of cEMI and L_Data, and where the data stands in the cEMI bytes; else the offset of the field that decided.
 #[repr(C)]
 pub struct KnxLData {
+    pub offset: usize,
     pub start: usize,
     pub end: usize,
-    pub offset: usize,
     pub source: u16,
     pub destination: u16,
     pub apci_code: u16,
@@ -78,9 +78,9 @@ fn read(counting: Counting, data: &[u8], fields: LDataFields) -> KnxLData
     let ctrl2 = fields.ctrl2;
     let source = fields.source;
     KnxLData {
+        offset: 0,
         start: base + ldata::data_start(is_data),
         end: base + counting.data_end(fields.npdu_length),
-        offset: 0,
         source: source.to_u16(),
         destination: fields.destination_raw,
         apci_code: service.apci_code,
@@ -149,9 +149,9 @@ fn refused(fault: Fault) -> KnxLData
 {
     let why = fault.why;
     KnxLData {
+        offset: fault.at,
         start: 0,
         end: 0,
-        offset: fault.at,
         source: 0,
         destination: 0,
         apci_code: 0,

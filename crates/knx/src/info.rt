@@ -20,18 +20,18 @@ use wire::Written;
 // A number of 01 and, beside 0, a part of the input; else the offset of the field that decided.
 #[repr(C)]
 pub struct KnxPart {
+    pub offset: usize,
     pub start: usize,
     pub end: usize,
-    pub offset: usize,
     pub number: u8,
 }
 
 // A number of 01 and, beside 0 and where one was found, a record: where its data stands, its type, its timestamp; else the offset of the field that decided.
 #[repr(C)]
 pub struct KnxAdditionalInfo {
+    pub offset: usize,
     pub start: usize,
     pub end: usize,
-    pub offset: usize,
     pub timestamp: u32,
     pub found: u8,
     pub named: u8,
@@ -43,8 +43,8 @@ pub struct KnxAdditionalInfo {
 // A number of 01 and, beside 0, how many there are; else the offset of the field that decided.
 #[repr(C)]
 pub struct KnxCount {
-    pub count: usize,
     pub offset: usize,
+    pub count: usize,
     pub number: u8,
 }
 
@@ -78,15 +78,15 @@ pub extern "C" fn knx_additional_info_count(area: &[u8]) -> KnxCount
 {
     match additional_info::count(area) {
         CountAnswer::Count(count) => KnxCount {
-            count,
             offset: 0,
+            count,
             number: 0,
         },
         CountAnswer::Refused(fault) => {
             let why = fault.why;
             KnxCount {
-                count: 0,
                 offset: fault.at,
+                count: 0,
                 number: why.number(),
             }
         }
@@ -131,9 +131,9 @@ fn part(view: View) -> KnxPart
     ensures { λ r. ⌜ KnxInfo.PartPromise view r ⌝ }
 {
     KnxPart {
+        offset: view.offset,
         start: view.start,
         end: view.end,
-        offset: view.offset,
         number: view.number,
     }
 }
@@ -147,9 +147,9 @@ fn record(answer: AdditionalInfoAnswer) -> KnxAdditionalInfo
             let t = info.info_type;
             let timestamp = info.timestamp;
             KnxAdditionalInfo {
+                offset: 0,
                 start: info.start,
                 end: info.end,
-                offset: 0,
                 timestamp: value(timestamp),
                 found: 1,
                 named: named(t),
@@ -170,9 +170,9 @@ fn none(number: u8, offset: usize) -> KnxAdditionalInfo
     ensures { λ r. ⌜ KnxInfo.NonePromise number offset r ⌝ }
 {
     KnxAdditionalInfo {
+        offset,
         start: 0,
         end: 0,
-        offset,
         timestamp: 0,
         found: 0,
         named: 0,

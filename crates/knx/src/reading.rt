@@ -8,9 +8,9 @@ use hpai::Hpai;
 // A number of 01 and, beside 0, where the body stands, the service and the total length; else the offset of the field that decided.
 #[repr(C)]
 pub struct KnxFrame {
+    pub offset: usize,
     pub start: usize,
     pub end: usize,
-    pub offset: usize,
     pub service: u16,
     pub total: u16,
     pub number: u8,
@@ -47,9 +47,9 @@ pub extern "C" fn knx_frame_parse(data: &[u8]) -> KnxFrame
 {
     let judged = frame::judge(data);
     KnxFrame {
+        offset: judged.offset,
         start: body_start(judged.number),
         end: judged.total as usize,
-        offset: judged.offset,
         service: judged.service,
         total: judged.total,
         number: judged.number,

@@ -22,6 +22,9 @@ send-requires c κs = search needs
 keep-requires : tie.Need-keep-requires
 keep-requires c κs = search needs
 
+called-requires : tie.Need-called-requires
+called-requires c κs = search needs
+
 same-length : tie.Need-same-length
 same-length c = search needs
 
@@ -30,8 +33,8 @@ same-length-2 c = search needs
 
 returns-2 : tie.Need-returns-2
 returns-2 c =
-    let a = c .before .before .before .before .before .before .before .before .before .before .before .before .before .before .args in
-    packed-call (a .image .now) (Send (a .id) (a .cemi .now) (a .out .now)) _ (c .before .before .before .before .before .before .send .result) _ _ _ (c .before .before .before .before .before .before .before .before .before .before .if1 .left) (c .before .before .before .before .before .before .before .before .unpack .ensures) (c .before .before .before .before .before .before .send .ensures) (c .before .before .keep .ensures)
+    let a = c .before .before .before .before .before .before .before .before .before .before .before .before .before .before .before .args in
+    packed-call (a .image .now) (Send (a .id) (a .cemi .now) (a .out .now)) _ (c .before .before .before .before .before .before .before .send .result) _ _ _ (c .before .before .before .before .before .before .before .before .before .before .before .if1 .left) (c .before .before .before .before .before .before .before .before .before .unpack .ensures) (c .before .before .before .before .before .before .before .send .ensures) (c .before .before .before .keep .ensures) (c .called .ensures)
 
 pub knx-table-send-spec : {M : Type 1} → statement M
 knx-table-send-spec =
@@ -42,6 +45,7 @@ knx-table-send-spec =
     unpack-requires
     send-requires
     keep-requires
+    called-requires
     same-length
     same-length-2
     returns-2)

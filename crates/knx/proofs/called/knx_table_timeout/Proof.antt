@@ -23,13 +23,16 @@ timeout-requires c κs = search needs
 keep-requires : tie.Need-keep-requires
 keep-requires c κs = search needs
 
+called-requires : tie.Need-called-requires
+called-requires c κs = search needs
+
 same-length : tie.Need-same-length
 same-length c = search needs
 
 returns-2 : tie.Need-returns-2
 returns-2 c =
-    let a = c .before .before .before .before .before .before .before .before .before .args in
-    packed-call (a .image .now) (Timeout (a .id)) _ (c .before .before .before .before .timeout .result) [] _ _ (c .before .before .before .before .before .before .before .if1 .left) (c .before .before .before .before .before .unpack .ensures) (c .before .before .before .before .timeout .ensures) (c .before .before .keep .ensures)
+    let a = c .before .before .before .before .before .before .before .before .before .before .args in
+    packed-call (a .image .now) (Timeout (a .id)) _ (c .before .before .before .before .before .timeout .result) [] _ _ (c .before .before .before .before .before .before .before .before .if1 .left) (c .before .before .before .before .before .before .unpack .ensures) (c .before .before .before .before .before .timeout .ensures) (c .before .before .before .keep .ensures) (c .called .ensures)
 
 pub knx-table-timeout-spec : {M : Type 1} → statement M
 knx-table-timeout-spec =
@@ -40,5 +43,6 @@ knx-table-timeout-spec =
     unpack-requires
     timeout-requires
     keep-requires
+    called-requires
     same-length
     returns-2)

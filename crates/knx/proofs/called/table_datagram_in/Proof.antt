@@ -42,6 +42,9 @@ heard-in-requires c κs = search needs
 keep-requires : tie.Need-keep-requires
 keep-requires c κs = search needs
 
+called-requires : tie.Need-called-requires
+called-requires c κs = search needs
+
 same-length : tie.Need-same-length
 same-length c = search needs
 
@@ -50,13 +53,13 @@ same-length-2 c = search needs
 
 returns-3 : tie.Need-returns-3
 returns-3 c =
-    let at-heard = c .before .before .before .before .before .before in
+    let at-heard = c .before .before .before .before .before .before .before in
     let at-hear = at-heard .before .before .before .before .before in
     let a = at-hear .before .before .before .before .before .args in
     let h = at-hear .hear-in .result in
     let t = at-heard .before .before .unpack .result in
     let stepped = at-heard .heard-in .ensures ∙ step-heard (a .form) (t .places) (a .bytes .now) (a .out .now) h (sym (heard-in-is (a .form) (a .bytes .now) h (at-hear .hear-in .ensures))) in
-    packed-call (a .image .now) (DatagramIn (a .form) (a .bytes .now) (a .out .now)) t (at-heard .heard-in .result) _ _ _ (at-hear .before .if1 .left) (at-heard .before .before .unpack .ensures) stepped (c .before .before .keep .ensures)
+    packed-call (a .image .now) (DatagramIn (a .form) (a .bytes .now) (a .out .now)) t (at-heard .heard-in .result) _ _ _ (at-hear .before .if1 .left) (at-heard .before .before .unpack .ensures) stepped (c .before .before .before .keep .ensures) (c .called .ensures)
 
 pub table-datagram-in-spec : {M : Type 1} → statement M
 table-datagram-in-spec =
@@ -71,6 +74,7 @@ table-datagram-in-spec =
     unpack-requires
     heard-in-requires
     keep-requires
+    called-requires
     same-length
     same-length-2
     returns-3)
