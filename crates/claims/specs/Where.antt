@@ -252,7 +252,7 @@ pub record Rows : Type 0 where
   pub request-short : heardBy01 (six 6 0x10 6 ++ 0xFF ∷ []) ≡ Refused (at BufferTooSmall 6)
   pub ack-short-in-datagram : heardBy01 (0x06 ∷ 0x10 ∷ 0x04 ∷ 0x21 ∷ 0x00 ∷ 0x0A ∷ 0x04 ∷ 0x15 ∷ 0x07 ∷ 0x00 ∷ 0xFF ∷ []) ≡ Refused (at BufferTooSmall 10)
   pub not-open : step chan (storeOf kind) (emptyOf kind 8) (Datagram (request 21 0) []) .0 ≡ refusesAt (at NotOpen 7) []
-  -- calls that take no datagram, and an output that is too small
+  -- a call that takes no datagram; an output that is too small is `TunnelRows.short-output`
   pub close-closed : step chan (storeOf kind) (emptyOf kind 8) (Close 21) .0 ≡ refusesAt (nowhere NotOpen) []
   -- a request whose L_Data behind four bytes of additional information has a wrong L: 10 + 2 + 4 + 6; one whose area ends in a lone type byte: 12 + 2
   pub deep-length : standing (allChecks (toLData wrongLength)) (allOffsets (toLData wrongLength)) ≡ Falls (at InvalidFrame 22)
