@@ -10,7 +10,7 @@ use Rattle.wire.specs.Places.{located, standing, moved}
 use Rattle.wire.specs.Coding.{check}
 use Rattle.wire.specs.Layout.{Field, byte, put, get}
 use Rattle.wire.specs.Writing.{Writes, room}
-use Rattle.wire.specs.Format.{Format, checksOf, offsetsOf, readBy01, readWhere}
+use Rattle.wire.specs.Format.{Format, checksOf, offsetsOf, foundIn, readBy01}
 use Rattle.wire.specs.Parts.{partOf, shown}
 use Rattle.wire.specs.Parts as Parts
 use Rattle.wire.specs.declared.refusals.Refusal.the-variants.{InvalidFrame, InvalidMessageCode}
@@ -78,7 +78,7 @@ parseBy01 s = readBy01 format s
 
 -- and where
 abbrev pub parseWhere : List ℕ → Told
-parseWhere s = readWhere format s
+parseWhere s = foundIn format s (parseBy01 s)
 
 abbrev pub ParsePromise : List ℕ → CEMIAnswer → Type 0
 ParsePromise s r = told r ≡ parseWhere s
@@ -93,7 +93,7 @@ toldLength (InfoLengthAnswer.Length n) = done (n ∷ [])
 toldLength (InfoLengthAnswer.Refused e) = refused 1 e
 
 abbrev pub InfoLengthPromise : List ℕ → InfoLengthAnswer → Type 0
-InfoLengthPromise s r = toldLength r ≡ located (checks s) (offsets s) (judged (checks s) (done (infoLength s ∷ [])))
+InfoLengthPromise s r = toldLength r ≡ foundIn format s (judged (checks s) (done (infoLength s ∷ [])))
 
 -- input shorter than 2 + additional length (2)
 abbrev pub infoCheck : List ℕ → Check
@@ -151,12 +151,16 @@ ldataOffsets = 0 ∷ infoOffset ∷ []
 abbrev pub restOffsets : List ℕ → List ℕ
 restOffsets s = moved (2 + infoLength s) (LData.offsets (length (serviceInfo s)))
 
+-- an answer with the offset of the check that decided
+abbrev pub ldataFoundIn : Count → CEMIFrame → List ℕ → Told → Told
+ldataFoundIn C f s t = located (checks s ++ ldataChecks f s ++ byteChecks C (serviceInfo s)) (offsets s ++ ldataOffsets ++ restOffsets s) t
+
 -- and where: behind four bytes of additional information, an L that is wrong is 2 at 2 + 4 + 6
 abbrev pub asLDataWhere : Count → CEMIFrame → List ℕ → Told
-asLDataWhere C f s = located (checks s ++ ldataChecks f s ++ byteChecks C (serviceInfo s)) (offsets s ++ ldataOffsets ++ restOffsets s) (asLDataIn C f s)
+asLDataWhere C f s = ldataFoundIn C f s (asLDataIn C f s)
 
 abbrev pub AsLDataPromise : CEMIFrame → List ℕ → LDataAnswer → Type 0
-AsLDataPromise f s r = LData.told r ≡ asLDataWhere crateCount f s
+AsLDataPromise f s r = LData.told r ≡ ldataFoundIn crateCount f s (asLDataBy01 f s)
 
 -- in the count that it is given
 abbrev pub AsLDataInPromise : Counting → CEMIFrame → List ℕ → LDataAnswer → Type 0

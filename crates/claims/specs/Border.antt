@@ -1,4 +1,4 @@
--- The C border, one row for each exported function, and the table's image: numbers and bytes typed from 01. The arguments and fields of a row differ, so that two exchanged in promise and code alike are found.
+-- The C border, one row for each exported function, a refusal with its offset for each answer that reads, and the table's image: numbers and bytes typed from 01. The arguments and fields of a row differ, so that two exchanged in promise and code alike are found.
 use Prim.Native.Nat.{ℕ}
 use mathlib.Core.Path.{refl}
 use mathlib.Core.List.{List, [], _∷_, _++_}
@@ -18,13 +18,44 @@ use Rattle.additional_info.specs.Area.{recordsIn, behind}
 use Rattle.knx.specs.Building as Building
 use Rattle.knx.specs.Info as KnxInfo
 use Rattle.knx.specs.Called as Called
+use Rattle.knx.specs.declared.reading.KnxConnectResponse.{KnxConnectResponse}
+use Rattle.knx.specs.declared.cemi_ldata.KnxLData.{KnxLData}
 use Rattle.knx.specs.declared.building.KnxWritten.{KnxWritten}
 use Rattle.knx.specs.declared.building.KnxEndpoint.{KnxEndpoint}
 use Rattle.knx.specs.declared.info.KnxAdditionalInfo.{KnxAdditionalInfo}
 use Rattle.knx.specs.declared.called.KnxCalled.{KnxCalled}
 use Rattle.claims.specs.Layouts.{endpointBytes, nines, stamped}
+use Rattle.claims.specs.StandardCount.{toGroup}
 
 -- ---- reading
+
+-- a response that is refused, by its offset and number
+abbrev noResponse : ℕ → ℕ → KnxConnectResponse
+noResponse o n = record { channel = 0; status = 0; «structure_length» = 0; «host_protocol» = 0; address = replicate 4 0; port = 0; crd = replicate 4 0; offset = o; number = n }
+
+-- L is 7 and one byte follows the TPCI: 2 at 2 + 4 + 6, in either count
+abbrev wrongL : List ℕ
+wrongL = 0x29 ∷ 0x04 ∷ 0x04 ∷ 0x02 ∷ 0x12 ∷ 0x34 ∷ toGroup 7 (0x00 ∷ 0x81 ∷ [])
+
+abbrev noLData : KnxLData
+noLData = record {
+  start = 0;
+  end = 0;
+  source = 0;
+  destination = 0;
+  «apci_code» = 0;
+  «message_code» = 0;
+  «control_1» = 0;
+  «control_2» = 0;
+  «npdu_length» = 0;
+  «tpci_kind» = 0;
+  «tpci_sequence» = 0;
+  «apci_named» = 0;
+  «control_code» = 0;
+  «six_bit» = 0;
+  offset = 12;
+  number = 2;
+}
 
 pub record Reads : Type 0 where
   -- an acknowledgement's eleven bytes and one more
@@ -133,6 +164,15 @@ pub record Reads : Type 0 where
         offset = 0;
         number = 0;
       })
+  -- refused, each at an offset of its own: a total length of 5; an Hpai of 7 bytes; one whose length byte is 7, in a response and in a request; a response of one byte; an L of 7 behind four bytes of additional information
+  pub frame-refused : KnxReading.FramePromise (0x06 ∷ 0x10 ∷ 0x04 ∷ 0x20 ∷ 0x00 ∷ 0x05 ∷ []) (record { start = 0; end = 0; service = 0; total = 0; offset = 4; number = 2 })
+  pub hpai-refused : KnxReading.HpaiPromise (0x08 ∷ replicate 6 0) (record { «structure_length» = 0; «host_protocol» = 0; address = replicate 4 0; port = 0; offset = 7; number = 1 })
+  pub response-refused : KnxReading.ConnectResponsePromise (0x15 ∷ 0x00 ∷ 0x07 ∷ replicate 11 0) (noResponse 2 2)
+  pub response-standard-refused : KnxReading.ConnectResponseStandardPromise (0x15 ∷ []) (noResponse 1 1)
+  pub request-refused : KnxChannel.DisconnectRequestPromise (0x15 ∷ 0x00 ∷ 0x07 ∷ replicate 7 0)
+      (record { channel = 0; «structure_length» = 0; «host_protocol» = 0; address = replicate 4 0; port = 0; offset = 2; number = 2 })
+  pub ldata-refused : CemiLData.CemiLDataPromise wrongL noLData
+  pub ldata-standard-refused : CemiLData.CemiLDataStandardPromise wrongL noLData
 
 pub reads : Reads
 unfolding messageOf
@@ -149,29 +189,39 @@ reads = record {
   cemi-numbered = refl;
   cemi-switch = refl;
   cemi-ack = refl;
+  frame-refused = refl;
+  hpai-refused = refl;
+  response-refused = (refl, record { address-4 = refl; crd-4 = refl });
+  response-standard-refused = (refl, record { address-4 = refl; crd-4 = refl });
+  request-refused = refl;
+  ldata-refused = refl;
+  ldata-standard-refused = refl;
 }
 
 -- ---- additional information
 
--- no record, and beside a number
-abbrev noInfo : ℕ → KnxAdditionalInfo
-noInfo n = record { start = 0; end = 0; timestamp = 0; found = 0; named = 0; «info_type» = 0; timestamped = 0; offset = 0; number = n }
+-- no record, and beside a number and its offset
+abbrev noInfo : ℕ → ℕ → KnxAdditionalInfo
+noInfo o n = record { start = 0; end = 0; timestamp = 0; found = 0; named = 0; «info_type» = 0; timestamped = 0; offset = o; number = n }
 
 pub record Infos : Type 0 where
   pub area : KnxInfo.AreaPromise stamped (record { start = 2; end = 4; offset = 0; number = 0 })
-  pub area-refused : KnxInfo.AreaPromise (0x13 ∷ 0x00 ∷ []) (record { start = 0; end = 0; offset = 0; number = 6 })
+  pub area-refused : KnxInfo.AreaPromise (0x29 ∷ 0x02 ∷ 0x04 ∷ []) (record { start = 0; end = 0; offset = 1; number = 2 })
   -- an extended timestamp of four bytes, then a type without a name
   pub first : KnxInfo.FirstPromise (0x06 ∷ 0x04 ∷ 0x80 ∷ 0x01 ∷ 0x02 ∷ 0x03 ∷ 0x99 ∷ 0x01 ∷ 0xAA ∷ [])
       (record { start = 2; end = 6; timestamp = 0x80010203; found = 1; named = 1; «info_type» = 6; timestamped = 1; offset = 0; number = 0 })
   pub second : KnxInfo.NthPromise (0x06 ∷ 0x04 ∷ 0x80 ∷ 0x01 ∷ 0x02 ∷ 0x03 ∷ 0x99 ∷ 0x01 ∷ 0xAA ∷ []) 1
       (record { start = 8; end = 9; timestamp = 0; found = 1; named = 0; «info_type» = 0x99; timestamped = 0; offset = 0; number = 0 })
-  pub none : KnxInfo.FirstPromise [] (noInfo 0)
-  pub refused : KnxInfo.FirstPromise (0x04 ∷ []) (noInfo 14)
+  pub none : KnxInfo.FirstPromise [] (noInfo 0 0)
+  pub refused : KnxInfo.FirstPromise (0x04 ∷ []) (noInfo 0 14)
   pub two : KnxInfo.CountPromise (0x06 ∷ 0x00 ∷ 0x99 ∷ 0x01 ∷ 0xAA ∷ []) (record { count = 2; offset = 0; number = 0 })
+  -- a lone type byte at 2, for the n-th and the count
+  pub nth-refused : KnxInfo.NthPromise (0x06 ∷ 0x00 ∷ 0x99 ∷ []) 0 (noInfo 2 14)
+  pub count-refused : KnxInfo.CountPromise (0x06 ∷ 0x00 ∷ 0x99 ∷ []) (record { count = 0; offset = 2; number = 14 })
 
 pub infos : Infos
 unfolding recordsIn behind
-infos = record { area = refl; area-refused = refl; first = refl; second = refl; none = refl; refused = refl; two = refl }
+infos = record { area = refl; area-refused = refl; first = refl; second = refl; none = refl; refused = refl; two = refl; nth-refused = refl; count-refused = refl }
 
 -- ---- building
 
@@ -255,6 +305,9 @@ twoPlaces =
 abbrev said : ℕ → KnxCalled
 said n = record { start = 0; end = 0; written = 0; said = n; offset = 0; number = 0 }
 
+abbrev refusedAt : ℕ → ℕ → KnxCalled
+refusedAt o n = record { start = 0; end = 0; written = 0; said = 0; offset = o; number = n }
+
 pub record Tables : Type 0 where
   pub unpacked : Image.UnpackPromise two (record { places = twoPlaces })
   pub packed : Image.PackPromise twoPlaces (replicate 41 9) (Bytes 40) (two ++ 9 ∷ [])
@@ -288,8 +341,10 @@ pub record Tables : Type 0 where
   pub repeats-standard : Called.DatagramStandardPromise two (0x06 ∷ 0x10 ∷ 0x04 ∷ 0x21 ∷ 0x00 ∷ 0x0A ∷ 0x04 ∷ 0x15 ∷ 0x03 ∷ 0x29 ∷ []) [] (said 1)
       (imageOf (place 0x15 7 3 2) (place 0x16 8 4 2))
       []
+  -- 0x17 is not open: 9 at 7, where the datagram names it
+  pub not-open : Called.DatagramPromise two (0x06 ∷ 0x10 ∷ 0x04 ∷ 0x20 ∷ 0x00 ∷ 0x0A ∷ 0x04 ∷ 0x17 ∷ 0x07 ∷ 0x00 ∷ []) nines (refusedAt 7 9) two nines
   -- an image of 39 bytes is 1
-  pub short : Called.OpenPromise (replicate 39 0) 0x15 (record { start = 0; end = 0; written = 0; said = 0; offset = 0; number = 1 }) (replicate 39 0)
+  pub short : Called.OpenPromise (replicate 39 0) 0x15 (refusedAt 0 1) (replicate 39 0)
 
 pub tables : Tables
 tables = record {
@@ -307,5 +362,6 @@ tables = record {
   delivers-standard = refl;
   sent-standard = refl;
   repeats-standard = refl;
+  not-open = refl;
   short = refl;
 }

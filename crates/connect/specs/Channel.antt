@@ -9,7 +9,7 @@ use Rattle.wire.specs.Told.{Told, done, refused, Check}
 use Rattle.wire.specs.Places.{moved}
 use Rattle.wire.specs.Writing.{Writes, room}
 use Rattle.wire.specs.Layout.{Field, byte, size, put}
-use Rattle.wire.specs.Format.{Format, readBy01, readWhere}
+use Rattle.wire.specs.Format.{Format, foundIn, readBy01, readWhere}
 use Rattle.wire.specs.declared.refusals.Written.{Written}
 use Rattle.constants.specs.declared.services.ServiceType.{ServiceType}
 use Rattle.constants.specs.declared.services.ServiceType.the-variants as ServiceType
@@ -66,7 +66,7 @@ statusBy01 s = readBy01 statusFormat s
 
 -- and where: at the body's end
 abbrev pub statusWhere : List ℕ → Told
-statusWhere s = readWhere statusFormat s
+statusWhere s = foundIn statusFormat s (statusBy01 s)
 
 -- the two values
 abbrev pub status : ℕ → ℕ → Told

@@ -6,7 +6,7 @@ use lib.ListN.{length, getD}
 use Rattle.wire.specs.Told.{Told, done, refused, Check, _⇒_, differs}
 use Rattle.wire.specs.Writing.{Writes, room}
 use Rattle.wire.specs.Layout.{Field, byte, size, put}
-use Rattle.wire.specs.Format.{Format, checksOf, readBy01, readWhere}
+use Rattle.wire.specs.Format.{Format, checksOf, foundIn, readBy01}
 use Rattle.wire.specs.declared.refusals.Refusal.the-variants.{InvalidFrame}
 use Rattle.wire.specs.declared.refusals.Written.{Written}
 use Rattle.connect.specs.declared.cri.ConnectionRequestInfo.{ConnectionRequestInfo}
@@ -59,7 +59,7 @@ decodeBy01 s = readBy01 format s
 
 -- and where: at the input's end, or at the length byte
 abbrev pub decodeWhere : List ℕ → Told
-decodeWhere s = readWhere format s
+decodeWhere s = foundIn format s (decodeBy01 s)
 
 abbrev pub DecodePromise : List ℕ → ConnectionRequestInfoAnswer → Type 0
 DecodePromise s r = told r ≡ decodeWhere s

@@ -8,7 +8,7 @@ use lib.Dec.{eqb, ltb}
 use Rattle.wire.specs.Told.{Told, done, Check, _⇒_, judged}
 use Rattle.wire.specs.Places.{located, moved}
 use Rattle.wire.specs.Layout.{Field, byte, run, wordAt, size, put, get}
-use Rattle.wire.specs.Format.{Format, checksOf, offsetsOf, readBy01, readWhere}
+use Rattle.wire.specs.Format.{Format, checksOf, offsetsOf, foundIn, readBy01}
 use Rattle.wire.specs.declared.refusals.Refusal.the-variants.{BufferTooSmall}
 use Rattle.address.specs.declared.IndividualAddress.{IndividualAddress}
 use Rattle.hpai.specs.Hpai as Hpai
@@ -49,9 +49,9 @@ told r = record { number = r .number; values = values (r .response); start = 0; 
 abbrev pub parseBy01 : List ℕ → Told
 parseBy01 s = readBy01 format s
 
--- and where: a Hpai whose length byte is not 8 is 2 at 2
+-- and where: an Hpai whose length byte is not 8 is 2 at 2
 abbrev pub parseWhere : List ℕ → Told
-parseWhere s = readWhere format s
+parseWhere s = foundIn format s (parseBy01 s)
 
 -- the two arrays have four bytes each, as the types say
 pub record Arrays (c : ConnectResponse) : Type 0 where

@@ -6,7 +6,7 @@ use lib.ListN.{length, getD}
 use Rattle.wire.specs.Told.{Told, refused, Check, _⇒_, differs}
 use Rattle.wire.specs.Writing.{Writes, room}
 use Rattle.wire.specs.Layout.{Field, byte, word, run, size, put}
-use Rattle.wire.specs.Format.{Format, checksOf, offsetsOf, readBy01, readWhere}
+use Rattle.wire.specs.Format.{Format, checksOf, offsetsOf, foundIn, readBy01}
 use Rattle.wire.specs.declared.refusals.Fault.{Fault}
 use Rattle.wire.specs.declared.refusals.Refusal.the-variants.{InvalidFrame}
 use Rattle.wire.specs.declared.refusals.Written.{Written}
@@ -57,7 +57,7 @@ parseBy01 s = readBy01 format s
 
 -- and where
 abbrev pub parseWhere : List ℕ → Told
-parseWhere s = readWhere format s
+parseWhere s = foundIn format s (parseBy01 s)
 
 abbrev pub ParsePromise : List ℕ → HpaiAnswer → Type 0
 ParsePromise s r = told r ≡ parseWhere s

@@ -51,8 +51,9 @@ checks s = checksIn crateCount s
 abbrev pub offsets : List ℕ → List ℕ
 offsets s = Cemi.offsets s ++ ldataOffsets ++ restOffsets s
 
-abbrev pub judgedWhere : Count → List ℕ → Told → Told
-judgedWhere C s t = located (checksIn C s) (offsets s) (judged (checksIn C s) t)
+-- an answer with the offset of the check that decided
+abbrev pub foundIn : Count → List ℕ → Told → Told
+foundIn C s t = located (checksIn C s) (offsets s) t
 
 -- whether the rest is a data packet
 abbrev pub dataIn : List ℕ → Bool
@@ -92,19 +93,19 @@ abbrev pub ldataIn : List ℕ → Told
 ldataIn s = numbersIn crateCount s
 
 abbrev pub CemiLDataPromise : List ℕ → KnxLData → Type 0
-CemiLDataPromise s r = told r ≡ judgedWhere crateCount s (ldataIn s)
+CemiLDataPromise s r = told r ≡ foundIn crateCount s (judged (checks s) (ldataIn s))
 
 -- in the standard count
 abbrev pub CemiLDataStandardPromise : List ℕ → KnxLData → Type 0
-CemiLDataStandardPromise s r = told r ≡ judgedWhere standardCount s (numbersIn standardCount s)
+CemiLDataStandardPromise s r = told r ≡ foundIn standardCount s (judged (checksIn standardCount s) (numbersIn standardCount s))
 
 -- in the count that is given
 abbrev pub CemiLDataInPromise : Counting → List ℕ → KnxLData → Type 0
-CemiLDataInPromise c s r = told r ≡ judgedWhere (countBy c) s (numbersIn (countBy c) s)
+CemiLDataInPromise c s r = told r ≡ foundIn (countBy c) s (judged (checksIn (countBy c) s) (numbersIn (countBy c) s))
 
 -- what parse and as_ldata together answer
 abbrev pub AnswerInPromise : Counting → List ℕ → LDataAnswer → Type 0
-AnswerInPromise c s a = LData.told a ≡ judgedWhere (countBy c) s (done (valuesIn (countBy c) (serviceInfo s)))
+AnswerInPromise c s a = LData.told a ≡ foundIn (countBy c) s (judged (checksIn (countBy c) s) (done (valuesIn (countBy c) (serviceInfo s))))
 
 -- twelve zeros beside the number
 abbrev pub RefusedPromise : Fault → KnxLData → Type 0

@@ -31,9 +31,13 @@ module _ (F : Format) where
   abbrev pub offsetsOf : ℕ → List ℕ
   offsetsOf n = n ∷ F .askedAt
 
+  -- an answer of a reader of this format, with the offset of the check that decided
+  abbrev pub foundIn : List ℕ → Told → Told
+  foundIn s t = located (checksOf (length s) (get (F .fields) 0 s)) (offsetsOf (length s)) t
+
   -- read, and where it was refused
   abbrev pub readWhere : List ℕ → Told
-  readWhere s = located (checksOf (length s) (get (F .fields) 0 s)) (offsetsOf (length s)) (readBy01 s)
+  readWhere s = foundIn s (readBy01 s)
 
   abbrev pub bytesOf : List ℕ → List ℕ
   bytesOf vs = put (F .fields) vs
