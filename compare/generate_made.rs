@@ -160,8 +160,6 @@ fn random_ldata(rng: &mut Rng) -> Vec<u8> {
     [args, slice].concat()
 }
 
-/// Mostly none, else one of the first fourteen. Number 15 is in the systematic set alone: to draw
-/// it here would move the records that came before it.
 pub fn random_refusal(rng: &mut Rng) -> u8 {
     if rng.below(8) == 0 { 1 + rng.below(14) as u8 } else { 0 }
 }

@@ -85,8 +85,8 @@ fn check(call: u8, args: &[u8], room: usize, told: u8) -> Option<Vec<Checked>> {
 
 // What reads no input
 
-/// Builders, encoders, conversions of numbers, the twisted pair, and the calls on the table that
-/// name an id: the refusals that each may give, all at 0.
+/// Builders, encoders, conversions of numbers, and the calls on the table that name an id: the
+/// refusals that each may give, all at 0.
 fn at_none(call: u8, told: u8) -> Option<Checked> {
     let refusals: &[u8] = match call {
         1 => &[4],
@@ -96,8 +96,6 @@ fn at_none(call: u8, told: u8) -> Option<Checked> {
         7 | 24 => &[1, 5],
         45 | 68 => &[13, 5, 1],
         62 | 64 => &[14, 5, 1],
-        77 => &[1, 6, 2, 13, 5],
-        78 => &[6, 1, 13, 2, 15],
         47 => &[7, 8],
         48 => &[9],
         49 => &[9, 11],

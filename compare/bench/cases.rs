@@ -135,12 +135,6 @@ type Append =
 type CemiBuild =
     unsafe extern "C" fn(u8, *const u8, usize, *const u8, usize, *mut u8, usize) -> KnxWritten;
 
-/// Of a cEMI frame, buffer
-type Export = unsafe extern "C" fn(*const u8, usize, *mut u8, usize) -> KnxWritten;
-
-/// Of message code, a TP1 frame, buffer
-type Import = unsafe extern "C" fn(u8, *const u8, usize, *mut u8, usize) -> KnxWritten;
-
 const ROOM: usize = 600;
 
 struct Builds<B> {
@@ -180,18 +174,6 @@ impl Build for CemiBuild {
     fn build(self, rest: &[u8], out: &mut [u8]) -> KnxWritten {
         let (rest, length, out, room) = (rest.as_ptr(), rest.len(), out.as_mut_ptr(), out.len());
         unsafe { self(0x29, TIMESTAMP.as_ptr(), TIMESTAMP.len(), rest, length, out, room) }
-    }
-}
-
-impl Build for Export {
-    fn build(self, cemi: &[u8], out: &mut [u8]) -> KnxWritten {
-        unsafe { self(cemi.as_ptr(), cemi.len(), out.as_mut_ptr(), out.len()) }
-    }
-}
-
-impl Build for Import {
-    fn build(self, tp1: &[u8], out: &mut [u8]) -> KnxWritten {
-        unsafe { self(0x29, tp1.as_ptr(), tp1.len(), out.as_mut_ptr(), out.len()) }
     }
 }
 
@@ -331,7 +313,6 @@ pub fn all() -> Vec<Case> {
     cases.extend(tunnelling());
     cases.extend(reading_areas());
     cases.extend(building_areas());
-    cases.extend(twisted_pair());
     cases
 }
 
@@ -470,24 +451,5 @@ fn building_areas() -> Vec<Case> {
     vec![
         case("info append, to 0 to 2", "", "additional_info_append", append),
         case("cEMI build, 11 to 30", "", "cemi_build", build),
-    ]
-}
-
-fn twisted_pair() -> Vec<Case> {
-    let rng = &mut Rng::new(6);
-    let mut random = |one: fn(&mut Rng) -> Vec<u8>| lay_out(CALLS, |_| one(rng));
-    let sides: [Export; 2] = [rust_tp1_export, knx_tp1_export];
-    let export = |bodies| Builds { sides, bodies, out: [0; ROOM] };
-    let sides: [Import; 2] = [rust_tp1_import, knx_tp1_import];
-    let import = |bodies| Builds { sides, bodies, out: [0; ROOM] };
-    let exported = export(random(inputs::cemi_for_tp1));
-    let exported_mixed = export(random(inputs::mixed_cemi_for_tp1));
-    let imported = import(random(inputs::tp1));
-    let imported_mixed = import(random(inputs::mixed_tp1));
-    vec![
-        case("TP1 export", "0.9", "tp1_export", exported),
-        case("TP1 export, mixed", "0.9", "tp1_export", exported_mixed),
-        case("TP1 import", "0.9", "tp1_import", imported),
-        case("TP1 import, mixed", "0.9", "tp1_import", imported_mixed),
     ]
 }

@@ -95,62 +95,6 @@ fn ldata_in_cemi(rng: &mut Rng, length: u8, tpci: u8, behind: usize) -> Vec<u8> 
     cemi
 }
 
-/// L_Data in cEMI that goes to the twisted pair: L is any from 0 to 15.
-pub fn cemi_for_tp1(rng: &mut Rng) -> Vec<u8> {
-    let length = rng.below(16);
-    standard_frame(rng, length as u8)
-}
-
-/// Control 1 as the bus wants it, no additional information; L = 0 is a control packet.
-fn standard_frame(rng: &mut Rng, length: u8) -> Vec<u8> {
-    let control = if length == 0 { 0x80 } else { 0x00 };
-    let code = [0x11, 0x29, 0x2E][rng.below(3)];
-    let mut cemi = vec![code, 0, 0x90 | rng.byte() & 0x2F, rng.byte() & 0xF0];
-    cemi.extend(rng.bytes(4));
-    cemi.extend([length, control | rng.byte() & 0x7F]);
-    cemi.extend(rng.bytes(length.into()));
-    cemi
-}
-
-/// One in two is refused: too short, not L_Data, a forbidden L, a control byte, an L above 15.
-pub fn mixed_cemi_for_tp1(rng: &mut Rng) -> Vec<u8> {
-    let mut cemi = cemi_for_tp1(rng);
-    match rng.below(12) {
-        0 => cemi.truncate(rng.below(10)),
-        1 => cemi[0] = 0x2D,
-        2 => cemi[9] ^= 0x80,
-        3 => cemi[2] ^= 0x80,
-        4 => cemi[3] |= 1,
-        5 => cemi = standard_frame(rng, 16),
-        _ => {}
-    }
-    cemi
-}
-
-/// A frame of the twisted pair: L is any from 0 to 15.
-pub fn tp1(rng: &mut Rng) -> Vec<u8> {
-    let cemi = cemi_for_tp1(rng);
-    let mut frame = [&[cemi[2] & 0xFC], &cemi[4..8], &[cemi[3] | cemi[8]], &cemi[9..]].concat();
-    frame.push(frame.iter().fold(0xFF, |rest, byte| rest ^ byte));
-    frame
-}
-
-/// One in two is refused: too short, the control byte, a length that L does not give, the check byte,
-/// a forbidden L.
-pub fn mixed_tp1(rng: &mut Rng) -> Vec<u8> {
-    let mut frame = tp1(rng);
-    let last = frame.len() - 1;
-    match rng.below(10) {
-        0 => frame.truncate(rng.below(8)),
-        1 => frame[0] ^= 1 << rng.below(2),
-        2 => frame.push(0),
-        3 => frame[last] ^= 1 << rng.below(8),
-        4 => [6, last].into_iter().for_each(|at| frame[at] ^= 0x80),
-        _ => {}
-    }
-    frame
-}
-
 /// A record of additional information.
 fn info(kind: u8, data: &[u8]) -> Vec<u8> {
     [&[kind, data.len() as u8], data].concat()

@@ -1,7 +1,7 @@
 // The other side: the published Rust behind the border's signatures, and, where it has no such call,
-// the comparison's own writing of document 01, for additional information, the standard count and the
-// twisted pair those of info.rs, standard.rs and tp1.rs. It says no offset of a refusal, which the Rust
-// does not have. Crate root: the published files stand beside it.
+// the comparison's own writing of document 01, for additional information and the standard count those
+// of info.rs and standard.rs. It says no offset of a refusal, which the Rust does not have. Crate root:
+// the published files stand beside it.
 
 pub mod addressing;
 pub mod border;
@@ -9,7 +9,6 @@ pub mod error;
 pub mod info;
 pub mod ldata_builder;
 pub mod standard;
-pub mod tp1;
 pub mod tunnel_table;
 
 pub mod protocol {
@@ -293,28 +292,6 @@ pub unsafe extern "C" fn rust_cemi_build(
         Some(code) => info::build(code.to_u8(), area, rest, out),
         None => Err(KnxError::InvalidMessageCode.number()),
     })
-}
-
-#[no_mangle]
-pub unsafe extern "C" fn rust_tp1_export(
-    cemi: *const u8,
-    length: usize,
-    out: *mut u8,
-    room: usize,
-) -> KnxWritten {
-    written(tp1::export(from_raw_parts(cemi, length), from_raw_parts_mut(out, room)))
-}
-
-#[no_mangle]
-pub unsafe extern "C" fn rust_tp1_import(
-    message_code: u8,
-    frame: *const u8,
-    length: usize,
-    out: *mut u8,
-    room: usize,
-) -> KnxWritten {
-    let (frame, out) = (from_raw_parts(frame, length), from_raw_parts_mut(out, room));
-    written(tp1::import(message_code, frame, out))
 }
 
 fn called(answer: core::result::Result<Answer, u8>) -> KnxCalled {

@@ -209,19 +209,6 @@ pub mod declared {
             out: *mut u8,
             out_length: usize,
         ) -> KnxWritten;
-        pub fn knx_tp1_export(
-            cemi: *const u8,
-            cemi_length: usize,
-            out: *mut u8,
-            out_length: usize,
-        ) -> KnxWritten;
-        pub fn knx_tp1_import(
-            message_code: u8,
-            tp1: *const u8,
-            tp1_length: usize,
-            out: *mut u8,
-            out_length: usize,
-        ) -> KnxWritten;
         pub fn knx_connect_request(
             control: KnxEndpoint,
             data: KnxEndpoint,
@@ -439,22 +426,6 @@ pub fn cemi_build(
             additional_info.len(),
             service_info.as_ptr(),
             service_info.len(),
-            out.as_mut_ptr(),
-            out.len(),
-        )
-    }
-}
-
-pub fn tp1_export(cemi: &[u8], out: &mut [u8]) -> KnxWritten {
-    unsafe { declared::knx_tp1_export(cemi.as_ptr(), cemi.len(), out.as_mut_ptr(), out.len()) }
-}
-
-pub fn tp1_import(message_code: u8, tp1: &[u8], out: &mut [u8]) -> KnxWritten {
-    unsafe {
-        declared::knx_tp1_import(
-            message_code,
-            tp1.as_ptr(),
-            tp1.len(),
             out.as_mut_ptr(),
             out.len(),
         )

@@ -1,5 +1,5 @@
 /* Every function of include/knx.h, called from C. The expected bytes and numbers are typed from documents 01
- * and 02, the KNX documents and a real gateway's frames. Each call's arguments differ, so that a declaration with two of them swapped
+ * and 02 and the KNX documents. Each call's arguments differ, so that a declaration with two of them swapped
  * fails; compare/border/swaps tries every two. */
 #define _XOPEN_SOURCE 700 /* for a thread whose stack is lent */
 #include "knx.h"
@@ -607,118 +607,6 @@ static void cemi_frames(void) {
     CHECK(refused(knx_cemi_build(0x29, BYTES(4), 0, BYTES(5), 0, out, 1), 1));
 }
 
-/* ---- the twisted pair */
-
-/* cEMI frames and what knxd, a real gateway, puts on the bus for them. */
-#define WRITE_CEMI 0x11, 0x00, 0xBC, 0xD0, 0x11, 0x01, 0x08, 0x03, 0x01, 0x00, 0x81
-#define WRITE_TP1 0xBC, 0x11, 0x01, 0x08, 0x03, 0xD1, 0x00, 0x81, 0x08
-#define T_CONNECT_CEMI 0x11, 0x00, 0xBC, 0x50, 0x11, 0x01, 0x11, 0x4D, 0x00, 0x80
-#define T_CONNECT_TP1 0xBC, 0x11, 0x01, 0x11, 0x4D, 0x50, 0x80, 0xDF
-#define T_ACK_CEMI 0x11, 0x00, 0xBC, 0x50, 0x11, 0x01, 0x11, 0x4D, 0x00, 0xC6
-#define T_ACK_TP1 0xBC, 0x11, 0x01, 0x11, 0x4D, 0x50, 0xC6, 0x99
-
-/* The longest that goes there: L = 15. */
-#define LONGEST_PACKET 0x00, 0x80, 1, 2, 3, 4, 5, 6, 7, 8, 9, 10, 11, 12, 13, 14
-#define LONGEST_CEMI 0x2E, 0x00, 0xBC, 0xE0, 0x11, 0x05, 0x08, 0x03, 0x0F, LONGEST_PACKET
-#define LONGEST_TP1 0xBC, 0x11, 0x05, 0x08, 0x03, 0xEF, LONGEST_PACKET, 0x3C
-
-/* The L_Data of WRITE_CEMI with these control bytes, L and TPCI. */
-#define WRITE(control_1, control_2, l, tpci) control_1, control_2, 0x11, 0x01, 0x08, 0x03, l, tpci, 0x81
-
-static void exporting(void) {
-    fill();
-    CHECK(wrote(knx_tp1_export(LENT(WRITE_CEMI), out, 9), LENT(WRITE_TP1)));
-    fill();
-    CHECK(wrote(knx_tp1_export(LENT(T_CONNECT_CEMI), out, 8), LENT(T_CONNECT_TP1)));
-    fill();
-    CHECK(wrote(knx_tp1_export(LENT(T_ACK_CEMI), out, LONG), LENT(T_ACK_TP1)));
-    fill();
-    CHECK(wrote(knx_tp1_export(LENT(LONGEST_CEMI), out, 23), LENT(LONGEST_TP1)));
-    /* the two low bits of control 1 and bytes behind the end stay away; any of the three codes; a TPCI as it is */
-    fill();
-    CHECK(wrote(knx_tp1_export(LENT(KNX_LDATA_IND, 0, WRITE(0xBF, 0xD0, 1, 0x00), 0xEE, 0xEE), out, 11), LENT(WRITE_TP1)));
-    fill();
-    CHECK(wrote(knx_tp1_export(LENT(KNX_LDATA_CON, 0, WRITE(0xBD, 0xD0, 1, 0x04)), out, 9),
-                LENT(0xBC, 0x11, 0x01, 0x08, 0x03, 0xD1, 0x04, 0x81, 0x0C)));
-    /* the refusals of a cEMI frame and of its L_Data */
-    fill();
-    CHECK(refused(knx_tp1_export(BYTES(0x29), 0, out, LONG), 1));
-    CHECK(refused(knx_tp1_export(LENT(0x13), out, LONG), 1));
-    CHECK(refused(knx_tp1_export(LENT(0x13, 0, WRITE(0xBC, 0xD0, 1, 0x00)), out, LONG), 6));
-    CHECK(refused(knx_tp1_export(LENT(KNX_LRAW_IND, 255), out, LONG), 6));
-    CHECK(refused(knx_tp1_export(large, LONG, out, 9), 6));
-    CHECK(refused(knx_tp1_export(LENT(KNX_LDATA_IND, 255, WRITE(0xBC, 0xD0, 1, 0x00)), out, LONG), 2));
-    CHECK(refused(knx_tp1_export(LENT(0x29, 0x00, 0x3C, 0xD4, 0x11, 0x01, 0x08, 0x03, 0x01), out, LONG), 1));
-    CHECK(refused(knx_tp1_export(LENT(0x29, 0, WRITE(0x3C, 0xD4, 0, 0x00)), out, LONG), 2));
-    CHECK(refused(knx_tp1_export(LENT(0x29, 0, WRITE(0x3C, 0xD4, 1, 0x80)), out, LONG), 2));
-    CHECK(refused(knx_tp1_export(LENT(0x29, 0, WRITE(0x3C, 0xD4, 2, 0x00)), out, LONG), 2));
-    /* 13: additional information, readable or not, each bit of control 1, the format; before 5, before 1 */
-    CHECK(refused(knx_tp1_export(LENT(0x29, 4, 0x04, 0x02, 0x12, 0x34, WRITE(0xBC, 0xD0, 1, 0x00)), out, LONG), 13));
-    CHECK(refused(knx_tp1_export(LENT(0x29, 1, 0x04, WRITE(0xBC, 0xD0, 1, 0x00)), out, 0), 13));
-    CHECK(refused(knx_tp1_export(LENT(0x29, 0, WRITE(0x3C, 0xD0, 1, 0x00)), out, 0), 13));
-    CHECK(refused(knx_tp1_export(LENT(0x29, 0, WRITE(0xFC, 0xD0, 1, 0x00)), out, 0), 13));
-    CHECK(refused(knx_tp1_export(LENT(0x29, 0, WRITE(0xAC, 0xD0, 1, 0x00)), out, 0), 13));
-    CHECK(refused(knx_tp1_export(LENT(0x29, 0, WRITE(0xBC, 0xD8, 1, 0x00)), out, 0), 13));
-    CHECK(refused(knx_tp1_export(LENT(0x29, 0, WRITE(0xBC, 0xD1, 16, 0x00), LONGEST_PACKET), out, LONG), 13));
-    CHECK(refused(knx_tp1_export(LENT(0x29, 0, WRITE(0xBC, 0xD0, 16, 0x00), LONGEST_PACKET), out, 0), 5));
-    CHECK(refused(knx_tp1_export(LENT(WRITE_CEMI), out, 8), 1));
-    CHECK(refused(knx_tp1_export(LENT(T_CONNECT_CEMI), out, 7), 1));
-    CHECK(refused(knx_tp1_export(LENT(LONGEST_CEMI), out, 22), 1));
-}
-
-static void importing(void) {
-    fill();
-    CHECK(wrote(knx_tp1_import(KNX_LDATA_REQ, LENT(WRITE_TP1), out, 11), LENT(WRITE_CEMI)));
-    fill();
-    CHECK(wrote(knx_tp1_import(KNX_LDATA_REQ, LENT(T_CONNECT_TP1), out, 10), LENT(T_CONNECT_CEMI)));
-    fill();
-    CHECK(wrote(knx_tp1_import(KNX_LDATA_REQ, LENT(T_ACK_TP1), out, LONG), LENT(T_ACK_CEMI)));
-    fill();
-    CHECK(wrote(knx_tp1_import(KNX_LDATA_CON, LENT(LONGEST_TP1), out, 25), LENT(LONGEST_CEMI)));
-    fill();
-    CHECK(wrote(knx_tp1_import(KNX_LDATA_IND, LENT(WRITE_TP1), out, 12), LENT(0x29, 0, WRITE(0xBC, 0xD0, 1, 0x00))));
-    /* 6, before 1, before 13: each bit of the control byte, the two low ones among them */
-    fill();
-    CHECK(refused(knx_tp1_import(KNX_LRAW_REQ, LENT(WRITE_TP1), out, LONG), 6));
-    CHECK(refused(knx_tp1_import(0x00, BYTES(0xBC), 0, out, 0), 6));
-    CHECK(refused(knx_tp1_import(0x29, BYTES(0xBC), 0, out, LONG), 1));
-    CHECK(refused(knx_tp1_import(0x29, LENT(0x3C, 0x11, 0x01, 0x08, 0x03, 0xD0, 0x80), out, LONG), 1));
-    CHECK(refused(knx_tp1_import(0x29, LENT(0x3C, 0x11, 0x01, 0x08, 0x03, 0xD1, 0x00, 0x81, 0x88), out, LONG), 13));
-    CHECK(refused(knx_tp1_import(0x29, LENT(0xFC, 0x11, 0x01, 0x08, 0x03, 0xD1, 0x00, 0x81, 0x48), out, LONG), 13));
-    CHECK(refused(knx_tp1_import(0x29, LENT(0xAC, 0x11, 0x01, 0x08, 0x03, 0xD1, 0x00, 0x81, 0x18), out, LONG), 13));
-    CHECK(refused(knx_tp1_import(0x29, LENT(0xBE, 0x11, 0x01, 0x08, 0x03, 0xD1, 0x00, 0x81, 0x0A), out, LONG), 13));
-    CHECK(refused(knx_tp1_import(0x29, LENT(0xBD, 0x11, 0x01, 0x08, 0x03, 0xD2, 0x00, 0x81, 0x00), out, 0), 13));
-    CHECK(refused(knx_tp1_import(0x29, large, LONG, out, LONG), 13));
-    /* 2, before 15: a length that L does not give, also with a check byte of all before it behind the frame */
-    CHECK(refused(knx_tp1_import(0x29, LENT(0xBC, 0x11, 0x01, 0x08, 0x03, 0xD1, 0x00, 0x89), out, LONG), 2));
-    CHECK(refused(knx_tp1_import(0x29, LENT(WRITE_TP1, 0x00), out, LONG), 2));
-    CHECK(refused(knx_tp1_import(0x29, LENT(0xBC, 0x11, 0x01, 0x08, 0x03, 0xD2, 0x00, 0x81, 0x00), out, 0), 2));
-    /* 15, before 2 for an L that the packet may not have, before 1 */
-    CHECK(refused(knx_tp1_import(0x29, LENT(0xBC, 0x11, 0x01, 0x08, 0x03, 0xD1, 0x00, 0x81, 0xF7), out, 0), 15));
-    CHECK(refused(knx_tp1_import(0x29, LENT(0xBC, 0x11, 0x01, 0x11, 0x4D, 0x50, 0x00, 0x5E), out, 0), 15));
-    CHECK(refused(knx_tp1_import(0x29, LENT(0xBC, 0x11, 0x01, 0x11, 0x4D, 0x50, 0x00, 0x5F), out, 0), 2));
-    CHECK(refused(knx_tp1_import(0x29, LENT(0xBC, 0x11, 0x01, 0x08, 0x03, 0xD1, 0x80, 0x81, 0x88), out, 0), 2));
-    CHECK(refused(knx_tp1_import(0x11, LENT(WRITE_TP1), out, 10), 1));
-    CHECK(refused(knx_tp1_import(0x11, LENT(T_CONNECT_TP1), out, 9), 1));
-    CHECK(refused(knx_tp1_import(0x2E, LENT(LONGEST_TP1), out, 24), 1));
-}
-
-/* Every byte of a frame changed to every other value: the bus is noisy, and none of them comes through. */
-static void damaged(void) {
-    uint8_t tp1[] = {LONGEST_TP1};
-    unsigned through = 0;
-    fill();
-    for (size_t at = 0; at < sizeof tp1; at++)
-        for (unsigned bits = 1; bits <= 255; bits++) {
-            tp1[at] ^= (uint8_t)bits;
-            KnxWritten w = knx_tp1_import(KNX_LDATA_IND, tp1, sizeof tp1, out, 25);
-            through += w.number == 0 || w.count != 0;
-            tp1[at] ^= (uint8_t)bits;
-        }
-    CHECK(through == 0 && untouched());
-    CHECK(knx_tp1_import(KNX_LDATA_IND, tp1, sizeof tp1, out, 25).number == 0);
-}
-
 static void requests(void) {
     fill();
     CHECK(wrote(knx_connect_request(control, data, out, 26),
@@ -1178,9 +1066,6 @@ int main(void) {
     ldatas_standard();
     appending();
     cemi_frames();
-    exporting();
-    importing();
-    damaged();
     requests();
     tunnelled();
     answers();

@@ -12,7 +12,7 @@ use Rattle.wire.specs.declared.refusals.Refusal.TheVariants.{InvalidFrame, Inval
 use Rattle.wire.specs.declared.refusals.Standing.{Standing}
 use Rattle.wire.specs.declared.refusals.Written.{Written}
 use Rattle.wire.specs.declared.parts.View.{View}
-use Rattle.constants.specs.MessageCodes.{message_codes, code_of, message_of}
+use Rattle.constants.specs.MessageCodes.{message_codes, code_of}
 use Rattle.constants.specs.declared.message_codes.CEMIMessageCode.{CEMIMessageCode}
 use Rattle.constants.specs.declared.message_codes.CEMIMessageCode.TheVariants.{LDataReq, LDataInd, LDataCon, LRawReq, LRawInd, LRawCon, LBusmonInd}
 use Rattle.ldata.specs.Count.{Count, crate_count, count_by}
@@ -160,16 +160,6 @@ AsLDataPromise f s r = LData.told r ≡ ldata_found_in crate_count f s (as_ldata
 -- in the count that it is given
 abbrev pub AsLDataInPromise : Counting → CEMIFrame → List ℕ → LDataAnswer → Type 0
 AsLDataInPromise c f s r = LData.told r ≡ as_ldata_where (count_by c) f s
-
--- ---- parse, then as_ldata
-
--- the record that the parse makes of these bytes
-abbrev pub frame_in : List ℕ → CEMIFrame
-frame_in s = record { message_code = message_of (code_in s) }
-
--- those of the parse, those before L_Data, and those of L_Data on the rest
-abbrev pub checks_in : Count → List ℕ → List Check
-checks_in C s = checks s ++ ldata_checks (frame_in s) s ++ byte_checks C (service_info s)
 
 -- ---- 02, 1/13: the additional information
 

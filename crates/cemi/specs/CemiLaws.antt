@@ -27,7 +27,7 @@ use Rattle.ldata.specs.declared.count.Counting.{Counting}
 use Rattle.ldata.specs.declared.ldata.LDataFields.{LDataFields}
 use Rattle.ldata.specs.declared.ldata.LDataAnswer.{LDataAnswer}
 use Rattle.ldata.specs.declared.ldata.LDataAnswer.TheVariants as LDataAnswer
-use Rattle.cemi.specs.Cemi.{fields, format, code_in, info_length, checks, offsets, told, parse_where, ParsePromise, told_length, InfoLengthPromise, info_check, info_offset, ServiceInfoPromise, is_ldata, service_info, ldata_checks, ldata_offsets, rest_offsets, as_ldata_where, AsLDataInPromise, frame_in}
+use Rattle.cemi.specs.Cemi.{fields, format, code_in, info_length, checks, offsets, told, parse_where, ParsePromise, told_length, InfoLengthPromise, info_check, info_offset, ServiceInfoPromise, is_ldata, service_info, ldata_checks, ldata_offsets, rest_offsets, as_ldata_where, AsLDataInPromise}
 use Rattle.cemi.specs.declared.CEMIFrame.{CEMIFrame}
 use Rattle.cemi.specs.declared.CEMIAnswer.{CEMIAnswer}
 use Rattle.cemi.specs.declared.CEMIAnswer.TheVariants as CEMIAnswer
@@ -118,14 +118,6 @@ module _ (C : Count) (f : CEMIFrame) (s : List ℕ) where
     off_rest e p =
         sym (located_fall (checks s ++ ldata_checks f s ++ rest) (offsets s ++ ldata_offsets ++ rest_offsets s) t (later_fault (2 + info_length s) e)
         (on ∙ ap (later (2 + info_length s)) (was_fallen rest (LData.offsets (length (service_info s))) t 9 e refl p)))
-
--- the record that the parse made is the one of the bytes
-pub code_is : (s : List ℕ) (f : CEMIFrame) → ParsePromise s (CEMIAnswer.Frame f) → code_of f.message_code ≡ code_in s
-code_is s f p = ap (λ (t : Told). get_or t.values 0 0) (let_through (checks s) (done (code_in s ∷ [])) (told (CEMIAnswer.Frame f)) refl p)
-
-pub frame_is : (s : List ℕ) (f : CEMIFrame) → ParsePromise s (CEMIAnswer.Frame f) → f ≡ frame_in s
-frame_is s f p =
-    ap (λ (m : CEMIMessageCode). record { message_code = m }) (sym (MessageCodeLaws.back f.message_code) ∙ ap message_of (code_is s f p))
 
 -- an offset of L_Data is its end or 6
 pub rest_within : (C : Count) (s : List ℕ) (e : Fault) → LData.told (LDataAnswer.Refused e) ≡ LData.parse_where C s → e.at ≤ length s + 6

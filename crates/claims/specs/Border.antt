@@ -1,6 +1,6 @@
 -- The C border, one row for each exported function, a refusal with its offset for each answer that reads, and the table's image: numbers and bytes typed from 01. The arguments and fields of a row differ, so that two exchanged in promise and code alike are found.
 use Rattle.std.specs.Prelude.{ℕ, refl, List, [], ◌∷◌, ◌++◌, replicate}
-use Rattle.wire.specs.declared.refusals.Refusal.TheVariants.{PayloadTooLarge, InvalidMessageCode, InvalidCheckByte}
+use Rattle.wire.specs.declared.refusals.Refusal.TheVariants.{InvalidMessageCode}
 use Rattle.wire.specs.declared.refusals.Written.TheVariants.{Bytes, Refused}
 use Rattle.constants.specs.MessageCodes.{message_of}
 use Rattle.pci.specs.PciLaws.{tpci_of}
@@ -11,7 +11,6 @@ use Rattle.tunnel_image.specs.Image as Image
 use Rattle.knx.specs.Reading as KnxReading
 use Rattle.knx.specs.Channel as KnxChannel
 use Rattle.knx.specs.CemiLData as CemiLData
-use Rattle.knx.specs.TwistedPair as TwistedPair
 use Rattle.additional_info.specs.Area.{records_in, behind}
 use Rattle.knx.specs.Building as Building
 use Rattle.knx.specs.Info as KnxInfo
@@ -254,13 +253,6 @@ pub record Builds : Type 0 where
   -- L_Data.con around an area and three bytes; a code that is none of the seven is 6 before the area's 14
   pub cemi_build : KnxInfo.BuildPromise 0x2E (0x99 ∷ 0x01 ∷ 0xAA ∷ []) (0xBC ∷ 0xE0 ∷ 0x11 ∷ []) nines (wrote 8) (0x2E ∷ 0x03 ∷ 0x99 ∷ 0x01 ∷ 0xAA ∷ 0xBC ∷ 0xE0 ∷ 0x11 ∷ 9 ∷ [])
   pub cemi_code : KnxInfo.BuildPromise 0x13 (0x99 ∷ []) [] [] (record { count = 0; offset = 0; number = 6 }) []
-  -- knxd's T_Connect to TP1 and, under another code, back; L = 16 is 5, and a wrong check byte 15
-  pub tp1_export : TwistedPair.ExportPromise (0x11 ∷ 0x00 ∷ 0xBC ∷ 0x50 ∷ 0x11 ∷ 0x01 ∷ 0x11 ∷ 0x4D ∷ 0x00 ∷ 0x80 ∷ []) nines (wrote 8)
-      (0xBC ∷ 0x11 ∷ 0x01 ∷ 0x11 ∷ 0x4D ∷ 0x50 ∷ 0x80 ∷ 0xDF ∷ 9 ∷ [])
-  pub tp1_export_large : TwistedPair.ExportPromise (0x11 ∷ 0x00 ∷ 0xBC ∷ 0x50 ∷ 0x11 ∷ 0x01 ∷ 0x11 ∷ 0x4D ∷ 0x10 ∷ replicate 17 0) [] (record { count = 0; offset = 0; number = 5 }) []
-  pub tp1_import : TwistedPair.ImportPromise 0x2E (0xBC ∷ 0x11 ∷ 0x01 ∷ 0x11 ∷ 0x4D ∷ 0x50 ∷ 0x80 ∷ 0xDF ∷ []) (9 ∷ 9 ∷ nines) (wrote 10)
-      (0x2E ∷ 0x00 ∷ 0xBC ∷ 0x50 ∷ 0x11 ∷ 0x01 ∷ 0x11 ∷ 0x4D ∷ 0x00 ∷ 0x80 ∷ 9 ∷ [])
-  pub tp1_import_check : TwistedPair.ImportPromise 0x29 (0xBC ∷ 0x11 ∷ 0x01 ∷ 0x11 ∷ 0x4D ∷ 0x50 ∷ 0x80 ∷ 0xDE ∷ []) nines (record { count = 0; offset = 0; number = 15 }) nines
   pub tunneling_ack : Building.TunnelingAckPromise 0x15 0x07 0x29 (nines ++ nines) (wrote 11)
       (0x06 ∷ 0x10 ∷ 0x04 ∷ 0x21 ∷ 0x00 ∷ 0x0B ∷ 0x04 ∷ 0x15 ∷ 0x07 ∷ 0x00 ∷ 0x29 ∷ replicate 7 9)
   pub tunneling_ack_standard : Building.TunnelingAckStandardPromise 0x15 0x07 0x29 (nines ++ nines) (wrote 10)
@@ -268,7 +260,7 @@ pub record Builds : Type 0 where
   pub disconnect_response : Building.DisconnectResponseBuildPromise 0x15 0x21 nines (wrote 8) (0x06 ∷ 0x10 ∷ 0x02 ∷ 0x0A ∷ 0x00 ∷ 0x08 ∷ 0x15 ∷ 0x21 ∷ 9 ∷ [])
 
 pub builds : Builds
-unfolding tpci_of records_in behind message_of
+unfolding tpci_of records_in behind
 builds = record {
   ldata = record { answer = Bytes 10; keeps = (refl, refl); tells = refl };
   ldata_standard = record { answer = Bytes 10; keeps = (refl, refl); tells = refl };
@@ -280,10 +272,6 @@ builds = record {
   info-append = record { answer = Bytes 7; keeps = (refl, refl); tells = refl };
   cemi_build = record { answer = Bytes 8; keeps = (refl, refl); tells = refl };
   cemi_code = record { answer = Refused InvalidMessageCode; keeps = (refl, refl); tells = refl };
-  tp1_export = record { answer = Bytes 8; keeps = (refl, refl); tells = refl };
-  tp1_export_large = record { answer = Refused PayloadTooLarge; keeps = (refl, refl); tells = refl };
-  tp1_import = record { answer = Bytes 10; keeps = (refl, refl); tells = refl };
-  tp1_import_check = record { answer = Refused InvalidCheckByte; keeps = (refl, refl); tells = refl };
   tunneling_ack = record { answer = Bytes 11; keeps = (refl, refl); tells = refl };
   tunneling_ack_standard = record { answer = Bytes 10; keeps = (refl, refl); tells = refl };
   disconnect_response = record { answer = Bytes 8; keeps = (refl, refl); tells = refl };

@@ -1,7 +1,7 @@
--- Demand 1: a number other than 0 is one of 1 to 15, comes with zeros and an empty view, and changes no lent byte. One theorem for each public function that can refuse, under its name, over the promise that its contract names; at the end the functions that refuse nothing. That nothing faults, wraps or hangs is the gate's verdict on functions without a `requires`.
-use Rattle.std.specs.Prelude.{ℕ, ◌+◌, ◌≡◌, refl, Bool, List, [], ◌∷◌, ◌++◌, length}
+-- Demand 1: a number other than 0 is one of 1 to 14, comes with zeros and an empty view, and changes no lent byte. One theorem for each public function that can refuse, under its name, over the promise that its contract names; at the end the functions that refuse nothing. That nothing faults, wraps or hangs is the gate's verdict on functions without a `requires`.
+use Rattle.std.specs.Prelude.{ℕ, ◌+◌, ◌≡◌, refl, List, [], ◌∷◌, ◌++◌, length, Bool}
 use Rattle.std.proofs.Common.{ap, ◌∙◌}
-use Rattle.wire.specs.Told.{Told, done, refused, viewed, verdict, answer}
+use Rattle.wire.specs.Told.{done, refused, viewed, verdict, answer}
 use Rattle.wire.specs.Layout.{get}
 use Rattle.wire.specs.Writing.{WritePromise, Write3Promise, room}
 use Rattle.wire.specs.Writing as Writing
@@ -12,8 +12,6 @@ use Rattle.wire.specs.declared.refusals.Refusal.{Refusal}
 use Rattle.wire.specs.declared.refusals.Verdict.{Verdict}
 use Rattle.wire.specs.declared.refusals.Verdict.TheVariants.{Refuse}
 use Rattle.wire.specs.Format.{checks_of}
-use Rattle.wire.specs.declared.refusals.Standing.{Standing}
-use Rattle.wire.specs.declared.refusals.Standing.TheVariants.{Stands, Falls}
 use Rattle.wire.specs.Refusing.{Zeros, Refusing, Leaves, refused-zeros, judged-refusing, writes_refusing}
 use Rattle.wire.specs.declared.refusals.Written.{Written}
 use Rattle.wire.specs.declared.parts.View.{View}
@@ -44,9 +42,6 @@ use Rattle.cemi.specs.Cemi as Cemi
 use Rattle.cemi.specs.declared.CEMIFrame.{CEMIFrame}
 use Rattle.cemi.specs.declared.CEMIAnswer.{CEMIAnswer}
 use Rattle.cemi.specs.declared.InfoLengthAnswer.{InfoLengthAnswer}
-use Rattle.tp1.specs.StandardFrame as StandardFrame
-use Rattle.tp1.specs.Exporting as Exporting
-use Rattle.tp1.specs.Importing as Importing
 use Rattle.header.specs.Header as Header
 use Rattle.header.specs.declared.KnxnetIpHeader.{KnxnetIpHeader}
 use Rattle.header.specs.declared.HeaderAnswer.{HeaderAnswer}
@@ -117,7 +112,6 @@ use Rattle.tunnel_image.specs.Image as Image
 use Rattle.knx.specs.Reading as KnxReading
 use Rattle.knx.specs.Channel as KnxChannel
 use Rattle.knx.specs.CemiLData as CemiLData
-use Rattle.knx.specs.TwistedPair as TwistedPair
 use Rattle.knx.specs.Building as Building
 use Rattle.knx.specs.BuildingLaws.{tells-refusing}
 use Rattle.knx.specs.Info as KnxInfo
@@ -161,16 +155,6 @@ pub message_code_from : (n : ℕ) (r : CEMIMessageCodeAnswer) → MessageCodes.F
 message_code_from n r = judged-refusing (check MessageCodes.message_codes n ∷ []) (done (n ∷ [])) (MessageCodes.told r) refl
 
 -- ---- ldata
-
--- what checks say of a part, as an answer without values
-abbrev pub told_standing : Standing → Told
-told_standing Stands = done []
-told_standing (Falls e) = refused 0 e
-
--- ldata::stands
-pub ldata-stands : (c : Counting) (n : ℕ) (d : Bool) (l : ℕ) (r : Standing) → LData.StandsPromise c n d l r → Refusing (told_standing r)
-ldata-stands c n d l Stands p some = absurd (some refl)
-ldata-stands c n d l (Falls e) p some = refused-zeros 0 e
 
 -- ldata::LDataFields::parse_in
 pub ldata_parse_in : (c : Counting) (s : List ℕ) (r : LDataAnswer) → LData.ParseInPromise c s r → Refusing (LData.told r)
@@ -270,16 +254,6 @@ cemi_as_ldata_in c f s r =
 -- cemi::CEMIFrame::as_ldata
 pub cemi_as_ldata : (f : CEMIFrame) (s : List ℕ) (r : LDataAnswer) → Cemi.AsLDataPromise f s r → Refusing (LData.told r)
 cemi_as_ldata = cemi_as_ldata_in Crate
-
--- ---- tp1
-
--- tp1::export
-pub tp1_export : (s b : List ℕ) (r : Written) (after : List ℕ) → Exporting.ExportPromise s b r after → Refusing (Writing.told r) × Leaves (Writing.told r) b after
-tp1_export s b = writes_refusing (Exporting.checks s (length b)) (StandardFrame.tp1_of (Cemi.service_info s)) b
-
--- tp1::import
-pub tp1_import : (code : ℕ) (t b : List ℕ) (r : Written) (after : List ℕ) → Importing.ImportPromise code t b r after → Refusing (Writing.told r) × Leaves (Writing.told r) b after
-tp1_import code t b = writes_refusing (Importing.checks code t (length b)) (Importing.cemi_of code t) b
 
 -- ---- header
 
@@ -616,7 +590,7 @@ knx_cemi_ldata s r = judged-refusing (CemiLData.checks s) (CemiLData.ldata_in s)
 
 -- knx::knx_cemi_ldata_standard
 pub knx_cemi_ldata_standard : (s : List ℕ) (r : KnxLData) → CemiLData.CemiLDataStandardPromise s r → Refusing (CemiLData.told r)
-knx_cemi_ldata_standard s r = judged-refusing (Cemi.checks_in standard_count s) (CemiLData.numbers_in standard_count s) (CemiLData.told r) refl
+knx_cemi_ldata_standard s r = judged-refusing (CemiLData.checks_in standard_count s) (CemiLData.numbers_in standard_count s) (CemiLData.told r) refl
 
 -- knx::knx_cemi_additional_info
 pub knx_cemi_info : (s : List ℕ) (r : KnxPart) → KnxInfo.AreaPromise s r → Refusing (KnxInfo.told_part r)
@@ -708,14 +682,6 @@ pub knx_cemi_build : (code : ℕ) (area rest b : List ℕ) (r : KnxWritten) (aft
 knx_cemi_build code area rest b =
     let cs = KnxInfo.build_checks code area (length rest) (length b) in
     tells-refusing (Writing.Writes cs (Cemi.layout code area rest) b) b (writes_refusing cs (Cemi.layout code area rest) b)
-
--- knx::knx_tp1_export
-pub knx_tp1_export : (s b : List ℕ) (r : KnxWritten) (after : List ℕ) → TwistedPair.ExportPromise s b r after → ToldRefuses b r after
-knx_tp1_export s b = tells-refusing (Exporting.ExportPromise s b) b (tp1_export s b)
-
--- knx::knx_tp1_import
-pub knx_tp1_import : (code : ℕ) (t b : List ℕ) (r : KnxWritten) (after : List ℕ) → TwistedPair.ImportPromise code t b r after → ToldRefuses b r after
-knx_tp1_import code t b = tells-refusing (Importing.ImportPromise code t b) b (tp1_import code t b)
 
 -- knx::knx_table_empty
 pub knx_table_empty : (image : List ℕ) (r : KnxWritten) (after : List ℕ) → Called.EmptyPromise image r after → ToldRefuses image r after

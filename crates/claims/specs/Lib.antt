@@ -5,7 +5,6 @@ pub mod Demand3
 pub mod AdditionalInfo
 pub mod StandardCount
 pub mod StandardForm
-pub mod TwistedPair
 pub mod Where
 pub mod Examples
 pub mod Inspection

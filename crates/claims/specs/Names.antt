@@ -2,7 +2,7 @@
 use Rattle.std.specs.Prelude.{ℕ, ◌≡◌, refl, true, false}
 use Rattle.wire.specs.Told.{nowhere}
 use Rattle.wire.specs.Refusals.{NumberPromise}
-use Rattle.wire.specs.declared.refusals.Refusal.TheVariants.{BufferTooSmall, InvalidFrame, UnsupportedVersion, UnsupportedServiceType, PayloadTooLarge, InvalidMessageCode, AlreadyOpen, TableFull, NotOpen, AwaitsAck, AwaitsNothing, NotForTunnels, FieldOutOfRange, InvalidAdditionalInfo, InvalidCheckByte}
+use Rattle.wire.specs.declared.refusals.Refusal.TheVariants.{BufferTooSmall, InvalidFrame, UnsupportedVersion, UnsupportedServiceType, PayloadTooLarge, InvalidMessageCode, AlreadyOpen, TableFull, NotOpen, AwaitsAck, AwaitsNothing, NotForTunnels, FieldOutOfRange, InvalidAdditionalInfo}
 use Rattle.constants.specs.Services as Services
 use Rattle.constants.specs.declared.services.ServiceType.TheVariants as ServiceType
 use Rattle.constants.specs.declared.services.ServiceAnswer.TheVariants as ServiceAnswer
@@ -47,7 +47,6 @@ pub record RefusalNumbers : Type 0 where
   pub not_for_tunnels : NumberPromise NotForTunnels 12
   pub out_of_range : NumberPromise FieldOutOfRange 13
   pub additional_info : NumberPromise InvalidAdditionalInfo 14
-  pub check_byte : NumberPromise InvalidCheckByte 15
 
 pub refusal-numbers : RefusalNumbers
 refusal-numbers = record {
@@ -65,7 +64,6 @@ refusal-numbers = record {
   not_for_tunnels = refl;
   out_of_range = refl;
   additional_info = refl;
-  check_byte = refl;
 }
 
 -- what `from_u16` answers to each code of 01, and to two that the published crate knows

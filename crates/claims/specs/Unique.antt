@@ -38,10 +38,6 @@ use Rattle.additional_info.specs.AppendingLaws as AppendingLaws
 use Rattle.cemi.specs.Cemi as Cemi
 use Rattle.cemi.specs.CemiLaws as CemiLaws
 use Rattle.cemi.specs.InfoLaws as CemiInfoLaws
-use Rattle.tp1.specs.Exporting as Exporting
-use Rattle.tp1.specs.ExportingLaws as ExportingLaws
-use Rattle.tp1.specs.Importing as Importing
-use Rattle.tp1.specs.ImportingLaws as ImportingLaws
 use Rattle.header.specs.Header as Header
 use Rattle.header.specs.HeaderLaws as HeaderLaws
 use Rattle.frame.specs.Frame as Frame
@@ -114,7 +110,6 @@ use Rattle.knx.specs.ReadingLaws as KnxReadingLaws
 use Rattle.knx.specs.Channel as KnxChannel
 use Rattle.knx.specs.ChannelLaws as KnxChannelLaws
 use Rattle.knx.specs.CemiLData as CemiLData
-use Rattle.knx.specs.TwistedPair as TwistedPair
 use Rattle.knx.specs.CemiLDataLaws as CemiLDataLaws
 use Rattle.knx.specs.Building as Building
 use Rattle.knx.specs.BuildingLaws as BuildingLaws
@@ -134,9 +129,6 @@ One₂ {A} {B} {R} P = (a : A) → One (P a)
 
 abbrev pub One₃ : {A B C R : Type 0} → (A → B → C → R → Type 0) → Type 0
 One₃ {A} {B} {C} {R} P = (a : A) → One₂ (P a)
-
-abbrev pub One₄ : {A B C D R : Type 0} → (A → B → C → D → R → Type 0) → Type 0
-One₄ {A} {B} {C} {D} {R} P = (a : A) → One₃ (P a)
 
 -- a promise over inputs and a lent slice, of the answer and the slice afterwards
 abbrev pub Lent : {A R : Type 0} → (A → List ℕ → R → List ℕ → Type 0) → Type 0
@@ -371,10 +363,6 @@ six_bit_value byte r q = same
 
 -- ---- ldata
 
--- ldata::stands
-pub ldata-stands : One₄ LData.StandsPromise
-ldata-stands c n d l r q = same
-
 -- ldata::LDataFields::parse_in
 pub ldata_parse_in : One₂ LData.ParseInPromise
 ldata_parse_in = LDataLaws.parse_one
@@ -514,16 +502,6 @@ cemi_as_ldata = CemiLaws.as_ldata_one Crate
 -- cemi::CEMIFrame::is_ldata
 pub cemi_is_ldata : One Cemi.IsLDataPromise
 cemi_is_ldata f r q = same
-
--- ---- tp1
-
--- tp1::export
-pub tp1_export : Lent Exporting.ExportPromise
-tp1_export = ExportingLaws.export_one
-
--- tp1::import
-pub tp1_import : Lent₂ Importing.ImportPromise
-tp1_import = ImportingLaws.import_one
 
 -- ---- header
 
@@ -1036,14 +1014,6 @@ knx_info_append = KnxInfoLaws.append_one
 -- knx::knx_cemi_build
 pub knx_cemi_build : Lent₃ KnxInfo.BuildPromise
 knx_cemi_build = KnxInfoLaws.build_one
-
--- knx::knx_tp1_export
-pub knx_tp1_export : Lent TwistedPair.ExportPromise
-knx_tp1_export s b = BuildingLaws.tells_one (Exporting.ExportPromise s b) (ExportingLaws.export_one s b)
-
--- knx::knx_tp1_import
-pub knx_tp1_import : Lent₂ TwistedPair.ImportPromise
-knx_tp1_import code t b = BuildingLaws.tells_one (Importing.ImportPromise code t b) (ImportingLaws.import_one code t b)
 
 -- knx::knx_ldata_build
 pub knx_ldata_build : (control_1 control-2 source destination tpci code six : ℕ) → Lent (Building.LDataBuildPromise control_1 control-2 source destination tpci code six)

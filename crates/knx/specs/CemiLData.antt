@@ -4,17 +4,19 @@ use Rattle.wire.specs.Told.{Told, done, Check, judged, refused}
 use Rattle.wire.specs.Places.{located}
 use Rattle.wire.specs.Layout.{get}
 use Rattle.wire.specs.declared.refusals.Fault.{Fault}
+use Rattle.constants.specs.MessageCodes.{message_of}
 use Rattle.pci.specs.Application as Application
 use Rattle.pci.specs.declared.application.Apci.{Apci}
 use Rattle.ldata.specs.Count.{Count, start_of, crate_count, standard_count, count_by}
-use Rattle.ldata.specs.LData.{tpci_in, length_in, data_byte, values_in}
+use Rattle.ldata.specs.LData.{tpci_in, length_in, data_byte, values_in, byte_checks}
 use Rattle.ldata.specs.LData as LData
 use Rattle.ldata.specs.declared.count.Counting.{Counting}
 use Rattle.ldata.specs.declared.ldata.LDataFields.{LDataFields}
 use Rattle.ldata.specs.declared.ldata.LDataAnswer.{LDataAnswer}
 use Rattle.ldata.specs.declared.ldata.LDataAnswer.TheVariants.{Frame}
-use Rattle.cemi.specs.Cemi.{code_in, info_length, service_info, ldata_offsets, rest_offsets, checks_in}
+use Rattle.cemi.specs.Cemi.{code_in, info_length, service_info, ldata_checks, ldata_offsets, rest_offsets}
 use Rattle.cemi.specs.Cemi as Cemi
+use Rattle.cemi.specs.declared.CEMIFrame.{CEMIFrame}
 use Rattle.knx.specs.declared.cemi_ldata.Service.{Service}
 use Rattle.knx.specs.declared.cemi_ldata.KnxLData.{KnxLData}
 
@@ -30,7 +32,14 @@ told r = record {
   offset = r.offset;
 }
 
--- those of `CEMIFrame::parse` and `as_ldata`, in the crate's count
+-- the record that the parse makes of these bytes
+abbrev pub frame_in : List ℕ → CEMIFrame
+frame_in s = record { message_code = message_of (code_in s) }
+
+-- those of the parse, those before L_Data, and those of L_Data on the rest
+abbrev pub checks_in : Count → List ℕ → List Check
+checks_in C s = Cemi.checks s ++ ldata_checks (frame_in s) s ++ byte_checks C (service_info s)
+
 abbrev pub checks : List ℕ → List Check
 checks s = checks_in crate_count s
 

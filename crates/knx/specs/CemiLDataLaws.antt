@@ -1,14 +1,17 @@
 -- From cEMI to L_Data at the border: how it goes on from the answers below, that the numbers read from the bytes agree with what the records below tell, and no second answer. Assumes nothing.
 use Rattle.std.specs.Prelude.{ℕ, ◌+◌, ◌≤◌, ◌/◌, ◌%◌, ◌≡◌, refl, Bool, true, false, not, cond, List, [], ◌∷◌, ◌++◌, length, get_or, take, ltb}
 use Rattle.std.proofs.Common.{arith, sym, ap, ◌∙◌}
-use Rattle.wire.specs.Told.{Told, done, viewed, Check, verdict}
-use Rattle.wire.specs.ToldLaws.{last_hold, one_to_one, same, let_pass, let_through, was_accepted}
+use Rattle.wire.specs.Clash.{never}
+use Rattle.wire.specs.Told.{Told, done, viewed, Check, ◌⇒◌, verdict}
+use Rattle.wire.specs.ToldLaws.{one_to_one, same, let_pass, let_through, was_accepted}
 use Rattle.wire.specs.PlaceLaws.{located_pass, located_fall, was_fallen}
 use Rattle.wire.specs.Parts.{part_of}
 use Rattle.wire.specs.declared.parts.View.{View}
 use Rattle.wire.specs.declared.refusals.Fault.{Fault}
-use Rattle.wire.specs.declared.refusals.Verdict.TheVariants.{Accept}
-use Rattle.constants.specs.MessageCodes.{code_of}
+use Rattle.wire.specs.declared.refusals.Verdict.TheVariants.{Accept, Refuse}
+use Rattle.constants.specs.MessageCodes.{code_of, message_of}
+use Rattle.constants.specs.MessageCodeLaws as MessageCodeLaws
+use Rattle.constants.specs.declared.message_codes.CEMIMessageCode.{CEMIMessageCode}
 use Rattle.pci.specs.Transport.{sequence_of, is_data}
 use Rattle.pci.specs.Application.{is_unknown}
 use Rattle.pci.specs.Application as Application
@@ -23,16 +26,33 @@ use Rattle.ldata.specs.declared.count.Counting.{Counting}
 use Rattle.ldata.specs.declared.ldata.LDataFields.{LDataFields}
 use Rattle.ldata.specs.declared.ldata.LDataAnswer.{LDataAnswer}
 use Rattle.ldata.specs.declared.ldata.LDataAnswer.TheVariants as LDataAnswer
-use Rattle.cemi.specs.Cemi.{code_in, info_length, service_info, ldata_checks, frame_in, checks_in}
+use Rattle.cemi.specs.Cemi.{code_in, info_length, service_info, ldata_checks}
 use Rattle.cemi.specs.Cemi as Cemi
 use Rattle.cemi.specs.CemiLaws as CemiLaws
 use Rattle.cemi.specs.declared.CEMIFrame.{CEMIFrame}
 use Rattle.cemi.specs.declared.CEMIAnswer.TheVariants as CEMIAnswer
-use Rattle.knx.specs.CemiLData.{told, offsets, data_in, apci_numbers, named_in, six_bit_in, service_in, ServiceInPromise, numbers_in, CemiLDataInPromise, AnswerInPromise, RefusedPromise, Accepted, ReadPromise}
+use Rattle.knx.specs.CemiLData.{told, frame_in, checks_in, offsets, data_in, apci_numbers, named_in, six_bit_in, service_in, ServiceInPromise, numbers_in, CemiLDataInPromise, AnswerInPromise, RefusedPromise, Accepted, ReadPromise}
 use Rattle.knx.specs.declared.cemi_ldata.Service.{Service}
 use Rattle.knx.specs.declared.cemi_ldata.KnxLData.{KnxLData}
 
 -- ---- on from the two answers below
+
+-- the record that the parse made is the one of the bytes
+code_is : (s : List ℕ) (f : CEMIFrame) → Cemi.ParsePromise s (CEMIAnswer.Frame f) → code_of f.message_code ≡ code_in s
+code_is s f p = ap (λ (t : Told). get_or t.values 0 0) (let_through (Cemi.checks s) (done (code_in s ∷ [])) (Cemi.told (CEMIAnswer.Frame f)) refl p)
+
+frame_is : (s : List ℕ) (f : CEMIFrame) → Cemi.ParsePromise s (CEMIAnswer.Frame f) → f ≡ frame_in s
+frame_is s f p =
+    ap (λ (m : CEMIMessageCode). record { message_code = m }) (sym (MessageCodeLaws.back f.message_code) ∙ ap message_of (code_is s f p))
+
+-- where all checks hold, so do the last
+last_hold : (cs ds : List Check) → verdict (cs ++ ds) ≡ Accept → verdict ds ≡ Accept
+last_hold [] ds q = q
+last_hold (broken ⇒ e ∷ cs) ds q = go broken q (last_hold cs ds)
+  where
+    go : (b : Bool) → cond b (Refuse e) (verdict (cs ++ ds)) ≡ Accept → (verdict (cs ++ ds) ≡ Accept → verdict ds ≡ Accept) → verdict ds ≡ Accept
+    go true p later = never cc
+    go false p later = later p
 
 module _ (c : Counting) (s : List ℕ) where
   abbrev C : Count
@@ -46,7 +66,7 @@ module _ (c : Counting) (s : List ℕ) where
 
   -- a frame of a cEMI that was parsed, and one that was not
   pub as_ldata : (f : CEMIFrame) → Cemi.ParsePromise s (CEMIAnswer.Frame f) → (a : LDataAnswer) → Cemi.AsLDataInPromise c f s a → AnswerInPromise c s a
-  as_ldata f parsed a q = q ∙ ap (λ (g : CEMIFrame). Cemi.as_ldata_where C g s) (CemiLaws.frame_is s f parsed)
+  as_ldata f parsed a q = q ∙ ap (λ (g : CEMIFrame). Cemi.as_ldata_where C g s) (frame_is s f parsed)
 
   pub no_cemi : (e : Fault) → Cemi.ParsePromise s (CEMIAnswer.Refused e) → AnswerInPromise c s (LDataAnswer.Refused e)
   no_cemi e q = CemiLaws.no_cemi C (frame_in s) s e (CemiLaws.fell s e q)
@@ -143,7 +163,7 @@ ldata_as c s r f g v p parsed read view =
     record { number = 0; values = code ∷ take 7 vs ++ apci_numbers k a ++ six_bit_in k (get_or rest 8 0) ∷ []; start = 2 + info_length s + start; end = 2 + info_length s + end; offset = 0 } in
     p ∙ located_pass (checks_in C s) (offsets s) (numbers_in C s) (CemiLaws.all_each C (frame_in s) s) refl (all_hold c s g answered)
     ∙ sym
-    (ap (λ (code : ℕ). of code (values g) (is_data g.tpci) g.apci v.start v.end) (CemiLaws.code_is s f parsed)
+    (ap (λ (code : ℕ). of code (values g) (is_data g.tpci) g.apci v.start v.end) (code_is s f parsed)
     ∙ ap (λ (vs : List ℕ). of (code_in s) vs (is_data g.tpci) g.apci v.start v.end) (LDataLaws.read C rest g on-rest)
     ∙ ap (λ (k : Bool). of (code_in s) (values_in C rest) k g.apci v.start v.end) (LDataLaws.kind_read C rest g on-rest)
     ∙ ap (λ (a : Apci). of (code_in s) (values_in C rest) d a v.start v.end) (LDataLaws.apci_read C rest g on-rest)

@@ -3,7 +3,6 @@ pub mod Reading
 pub mod Channel
 pub mod CemiLData
 pub mod Building
-pub mod TwistedPair
 pub mod Info
 pub mod Called
 pub mod ReadingLaws

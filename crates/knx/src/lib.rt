@@ -5,7 +5,6 @@ mod cemi_ldata;
 mod channel;
 mod info;
 mod reading;
-mod twisted_pair;
 
 pub use building::{KnxEndpoint, KnxWritten};
 pub use called::KnxCalled;

@@ -1,12 +1,11 @@
 -- 01, "L_Data": control 1, control 2, source, destination, length L, TPCI, and for data packets APCI; over how L counts. Assumes nothing.
 use Rattle.std.specs.Prelude.{ℕ, ◌≡◌, Bool, not, cond, List, [], ◌∷◌, ◌++◌, length, get_or, take, ltb}
 use Rattle.wire.specs.Told.{Told, done, viewed, refused, Check, ◌⇒◌, judged}
-use Rattle.wire.specs.Places.{located, standing}
+use Rattle.wire.specs.Places.{located}
 use Rattle.wire.specs.Layout.{Field, byte, word, get}
 use Rattle.wire.specs.Parts.{shown}
 use Rattle.wire.specs.Parts as Parts
 use Rattle.wire.specs.declared.refusals.Refusal.TheVariants.{BufferTooSmall, InvalidFrame}
-use Rattle.wire.specs.declared.refusals.Standing.{Standing}
 use Rattle.wire.specs.declared.parts.View.{View}
 use Rattle.control.specs.Bits.{bit}
 use Rattle.pci.specs.Transport.{kind_of, sequence_of, is_data}
@@ -80,9 +79,6 @@ length_offsets = 6 ∷ 6 ∷ []
 
 abbrev pub offsets : ℕ → List ℕ
 offsets n = n ∷ length_offsets
-
-abbrev pub StandsPromise : Counting → ℕ → Bool → ℕ → Standing → Type 0
-StandsPromise c n d l r = r ≡ standing (checks (count_by c) n d l) (offsets n)
 
 abbrev pub told : LDataAnswer → Told
 told (Frame f) = done (values f)

@@ -1,5 +1,8 @@
 // `LDataFrame` without its data: the fields of an L_Data frame, whose slice stands beside it as a parameter.
-ghost use Rattle.ldata.specs.LData.{StandsPromise, ApciPromise, ParsePromise, ParseInPromise, DataPromise, DataInPromise, DataPartPromise, DataPartInPromise, DestinationGroupPromise, DestinationIndividualPromise, IsServicePromise};
+ghost use Rattle.std.specs.Prelude.{◌≡◌};
+ghost use Rattle.wire.specs.Places.{standing};
+ghost use Rattle.ldata.specs.Count.{count_by};
+ghost use Rattle.ldata.specs.LData.{checks, offsets, ApciPromise, ParsePromise, ParseInPromise, DataPromise, DataInPromise, DataPartPromise, DataPartInPromise, DestinationGroupPromise, DestinationIndividualPromise, IsServicePromise};
 
 use crate::count::{Counting, data_start};
 use crate::destination::{GroupAddressAnswer, IndividualAddressAnswer};
@@ -153,8 +156,8 @@ fn apci_of(counting: Counting, is_data: bool, byte1: u8, byte2: u8) -> Apci
 }
 
 // The checks of an L_Data frame over a slice of n bytes, whoever made its fields. The last two both refuse with 2 at L, so one order of them answers for both counts.
-pub fn stands(counting: Counting, n: usize, is_data: bool, npdu_length: u8) -> Standing
-    ensures { StandsPromise counting n is_data npdu_length result }
+fn stands(counting: Counting, n: usize, is_data: bool, npdu_length: u8) -> Standing
+    ensures { result ≡ standing (checks (count_by counting) n is_data npdu_length) (offsets n) }
 {
     if n < counting.least() {
         return Standing::Falls(Fault {

@@ -2,7 +2,7 @@
 use Rattle.std.specs.Prelude.{ℕ, suc, ◌%◌, ◌≡◌, List, [], ◌∷◌}
 use Rattle.wire.specs.Coding.{variant_in}
 use Rattle.wire.specs.declared.refusals.Refusal.{Refusal}
-use Rattle.wire.specs.declared.refusals.Refusal.TheVariants.{BufferTooSmall, InvalidFrame, UnsupportedVersion, UnsupportedServiceType, PayloadTooLarge, InvalidMessageCode, AlreadyOpen, TableFull, NotOpen, AwaitsAck, AwaitsNothing, NotForTunnels, FieldOutOfRange, InvalidAdditionalInfo, InvalidCheckByte}
+use Rattle.wire.specs.declared.refusals.Refusal.TheVariants.{BufferTooSmall, InvalidFrame, UnsupportedVersion, UnsupportedServiceType, PayloadTooLarge, InvalidMessageCode, AlreadyOpen, TableFull, NotOpen, AwaitsAck, AwaitsNothing, NotForTunnels, FieldOutOfRange, InvalidAdditionalInfo}
 use Rattle.additional_info.specs.declared.info_type.AdditionalInfoType.{AdditionalInfoType}
 use Rattle.additional_info.specs.declared.info_type.AdditionalInfoType.TheVariants.{PlMediumInfo, RfMediumInfo, BusmonitorErrorFlags, RelativeTimestamp, TimeDelay, ExtendedRelativeTimestamp, BiBatInfo}
 use Rattle.additional_info.specs.declared.info_type.AdditionalInfoType.TheVariants as AdditionalInfoType
@@ -139,4 +139,4 @@ InfoTypePromise t r = r ≡ info_type_number t
 -- ---- refusals, by 01's and 02's numbers
 
 abbrev pub RefusalOfPromise : ℕ → Refusal → Type 0
-RefusalOfPromise n r = r ≡ variant_in (numbered 1 (BufferTooSmall ∷ InvalidFrame ∷ UnsupportedVersion ∷ UnsupportedServiceType ∷ PayloadTooLarge ∷ InvalidMessageCode ∷ AlreadyOpen ∷ TableFull ∷ NotOpen ∷ AwaitsAck ∷ AwaitsNothing ∷ NotForTunnels ∷ FieldOutOfRange ∷ InvalidAdditionalInfo ∷ [])) InvalidCheckByte n
+RefusalOfPromise n r = r ≡ variant_in (numbered 1 (BufferTooSmall ∷ InvalidFrame ∷ UnsupportedVersion ∷ UnsupportedServiceType ∷ PayloadTooLarge ∷ InvalidMessageCode ∷ AlreadyOpen ∷ TableFull ∷ NotOpen ∷ AwaitsAck ∷ AwaitsNothing ∷ NotForTunnels ∷ FieldOutOfRange ∷ [])) InvalidAdditionalInfo n

@@ -201,7 +201,6 @@ pub fn refusal_of(number: u8) -> Refusal
         11 => Refusal::AwaitsNothing,
         12 => Refusal::NotForTunnels,
         13 => Refusal::FieldOutOfRange,
-        14 => Refusal::InvalidAdditionalInfo,
-        _ => Refusal::InvalidCheckByte,
+        _ => Refusal::InvalidAdditionalInfo,
     }
 }

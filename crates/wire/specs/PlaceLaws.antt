@@ -45,16 +45,6 @@ pub decided : (cs : List Check) → Decided cs
 decided [] = record { decides = refl; in_range = omega arith; is_broken = λ h. absurd (omega arith); unbroken_before = λ i h. refl; none-broken = λ q. refl }
 decided (broken ⇒ e ∷ cs) = in_front broken broken cs refl (decided cs) e
 
--- where all hold, each does, at whatever place
-pub each_holds : (cs : List Check) → verdict cs ≡ Accept → (i : ℕ) → broken_at cs i ≡ false
-each_holds [] q i = refl
-each_holds (broken ⇒ e ∷ cs) q i = go broken q i (each_holds cs)
-  where
-    go : (b : Bool) → cond b (Refuse e) (verdict cs) ≡ Accept → (i : ℕ) → (verdict cs ≡ Accept → (j : ℕ) → broken_at cs j ≡ false) → broken_at (b ⇒ e ∷ cs) i ≡ false
-    go true p i later = never cc
-    go false p zero later = refl
-    go false p (suc j) later = later p j
-
 -- where one refuses, one is broken
 pub some_broken : (cs : List Check) (e : Refusal) → verdict cs ≡ Refuse e → place cs < length cs
 some_broken [] e q = never cc

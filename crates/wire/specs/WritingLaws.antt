@@ -73,14 +73,9 @@ refuses-before cs ds w b e q =
     let v : verdict (cs ++ ds) ≡ Refuse e = stays cs ds e q in
     (sym (let_refuse (cs ++ ds) (done (length w ∷ [])) e v), ap (λ (x : Verdict). lent x b (onto b w)) (sym v))
 
--- what was written behind checks that hold is the whole, of n bytes
-pub whole-behind : (cs : List Check) (w whole b : List ℕ) (n : ℕ) (r : Written) (after : List ℕ) → verdict cs ≡ Accept → w ≡ whole → length whole ≡ n
-    → WritePromise w b r after → Writes (cs ++ room n (length b) ∷ []) whole b r after
-whole-behind cs w whole b n r after q e many p =
-    writes_behind cs (room n (length b) ∷ []) whole b r after q
-    (writes_as (room (length w) (length b) ∷ []) (room n (length b) ∷ []) w whole b r after (ap (λ (k : ℕ). verdict (room k (length b) ∷ [])) (ap length e ∙ many)) e p)
-
--- and so are three pieces that make it together
+-- three pieces written behind checks that hold are what they make together, of n bytes
 pub pieces : (cs : List Check) (u v w whole b : List ℕ) (n : ℕ) (r : Written) (after : List ℕ) → verdict cs ≡ Accept → u ++ v ++ w ≡ whole → length whole ≡ n
     → Write3Promise u v w b r after → Writes (cs ++ room n (length b) ∷ []) whole b r after
-pieces cs u v w = whole-behind cs (u ++ v ++ w)
+pieces cs u v w whole b n r after q e many p =
+    writes_behind cs (room n (length b) ∷ []) whole b r after q
+    (writes_as (room (length (u ++ v ++ w)) (length b) ∷ []) (room n (length b) ∷ []) (u ++ v ++ w) whole b r after (ap (λ (k : ℕ). verdict (room k (length b) ∷ [])) (ap length e ∙ many)) e p)
