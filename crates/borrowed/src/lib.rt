@@ -1,4 +1,6 @@
 // The records that borrow their slice: thin over the proved functions of `frame` and `ldata`.
+#![tactic(auto)]
+
 mod knxnet_ip_frame;
 mod ldata_frame;
 

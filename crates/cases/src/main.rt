@@ -1,5 +1,7 @@
 // 01's cases on both sides that are run and not proved: one line for each, with its number and, where that is 0, the length that is answered.
 // Then an area of a quarter of a million records: no proof speaks of the stack that reading it takes. A refusal of the area is shown with its offset.
+#![tactic(auto)]
+
 use additional_info::{AdditionalInfoAnswer, CountAnswer};
 use constants::ServiceType;
 use frame::FrameBuilder;

@@ -1,4 +1,6 @@
 // A cEMI frame: cemi.rs, `CEMIFrame`, whose slice stands beside it as a parameter.
+#![tactic(auto)]
+
 ghost use Rattle.cemi.specs.Cemi.{ParsePromise, StandsPromise, MessageCodePromise, InfoLengthPromise, ServiceInfoPromise, ServiceInfoPartPromise, AsLDataPromise, AsLDataInPromise, IsLDataPromise, InfoPromise, InfoPartPromise, BuildPromise};
 
 use constants::{CEMIMessageCode, CEMIMessageCodeAnswer};

@@ -1,1 +1,2 @@
 // No code: the statements of specs/, in the order of the three demands.
+#![tactic(auto)]

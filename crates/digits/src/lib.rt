@@ -1,4 +1,6 @@
 // Numbers as they are printed.
+#![tactic(auto)]
+
 ghost use Rattle.std.specs.Prelude.{◌≡◌, length};
 ghost use Rattle.digits.specs.Digits.{decimal_in, PlacesPromise, DigitsPromise, HexDigitPromise, HexPromise};
 

@@ -1,4 +1,6 @@
 // Host protocol address information: frame.rs, `Hpai`. It holds an array, so its answer is a struct with the number beside it.
+#![tactic(auto)]
+
 ghost use Rattle.hpai.specs.Hpai.{NewPromise, ParsePromise, EncodePromise, ToBytesPromise, RefusedPromise};
 
 use constants::IPV4_UDP;

@@ -1,4 +1,6 @@
 // The inspection program. The gate runs it as people do, with a capture on standard input and no arguments.
+#![tactic(auto)]
+
 fn main() {
     inspect_io::run();
 }

@@ -1,4 +1,6 @@
 // The body of the inspection program: a capture on standard input, or those that its arguments name, and a line for each record on standard output. What goes wrong is told on standard error.
+#![tactic(auto)]
+
 mod captures;
 mod reading;
 mod running;

@@ -1,4 +1,6 @@
 // What an inspection prints: what the frame checks say of a record, its line, the lines of a buffer's records and the ending.
+#![tactic(auto)]
+
 mod lines;
 mod scanning;
 mod turns;

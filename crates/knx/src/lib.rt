@@ -1,4 +1,6 @@
 // The C border: the calls that a host makes often, over numbers and lent bytes. Each is thin over a proved function of a crate below; include/knx.h declares them.
+#![tactic(auto)]
+
 mod building;
 mod called;
 mod cemi_ldata;

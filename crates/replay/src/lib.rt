@@ -1,4 +1,6 @@
 // What the programs that replay recorded calls share: the next record, what a call told, and its line of text. compare/README.md lays both out.
+#![tactic(auto)]
+
 mod lines;
 mod records;
 mod telling;
