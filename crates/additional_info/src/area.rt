@@ -6,14 +6,14 @@ use crate::info_type::AdditionalInfoType;
 use wire::{Fault, Refusal};
 
 // The value of a relative timestamp; none for other types, and for timestamps of another length.
-#[derive(Drop)]
+#[derive(Clone, Copy)]
 pub enum Timestamp {
     Value(u32),
     None,
 }
 
 // One record: its type, its timestamp, and where its data stands in the area. What remains starts at `end`.
-#[derive(Drop)]
+#[derive(Clone, Copy)]
 pub struct AdditionalInfo {
     pub start: usize,
     pub end: usize,
@@ -21,14 +21,14 @@ pub struct AdditionalInfo {
     pub timestamp: Timestamp,
 }
 
-#[derive(Drop)]
+#[derive(Clone, Copy)]
 pub enum AdditionalInfoAnswer {
     Record(AdditionalInfo),
     None,
     Refused(Fault),
 }
 
-#[derive(Drop)]
+#[derive(Clone, Copy)]
 pub enum CountAnswer {
     Count(usize),
     Refused(Fault),
@@ -83,7 +83,7 @@ pub fn nth(area: &[u8], n: usize) -> AdditionalInfoAnswer
 }
 
 // How many records were gone past, and where what remains starts.
-#[derive(Drop)]
+#[derive(Clone, Copy)]
 struct Walked {
     records: usize,
     at: usize,

@@ -1,7 +1,7 @@
 // The type of a record: cemi.rs, `AdditionalInfoType`; a type without a name is kept by its number.
 ghost use Rattle.additional_info.specs.InfoType.{FromPromise, ToPromise};
 
-#[derive(Drop)]
+#[derive(Clone, Copy)]
 pub enum AdditionalInfoType {
     PlMediumInfo,
     RfMediumInfo,

@@ -5,7 +5,7 @@ use frame::{FrameAnswer, FrameFields};
 use wire::View;
 
 // The bytes of the datagram, none where it is refused, and what parsing it answered.
-#[derive(Drop)]
+#[derive(Clone, Copy)]
 pub struct KnxnetIpFrame<'a> {
     pub data: &'a [u8],
     pub answer: FrameAnswer,

@@ -5,7 +5,7 @@ use ldata::{Counting, LDataAnswer, LDataFields};
 use wire::{Fault, Refusal, View};
 
 // The application data, none where the frame is refused, and what parsing it answered.
-#[derive(Drop)]
+#[derive(Clone, Copy)]
 pub struct LDataFrame<'a> {
     pub data: &'a [u8],
     pub answer: LDataAnswer,

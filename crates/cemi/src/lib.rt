@@ -7,18 +7,18 @@ use constants::{CEMIMessageCode, CEMIMessageCodeAnswer};
 use ldata::{Counting, LDataAnswer, LDataFields};
 use wire::{Fault, Refusal, Standing, Verdict, View, Written};
 
-#[derive(Drop)]
+#[derive(Clone, Copy)]
 pub struct CEMIFrame {
     pub message_code: CEMIMessageCode,
 }
 
-#[derive(Drop)]
+#[derive(Clone, Copy)]
 pub enum CEMIAnswer {
     Frame(CEMIFrame),
     Refused(Fault),
 }
 
-#[derive(Drop)]
+#[derive(Clone, Copy)]
 pub enum InfoLengthAnswer {
     Length(u8),
     Refused(Fault),

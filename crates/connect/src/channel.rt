@@ -5,58 +5,58 @@ use constants::ServiceType;
 use hpai::Hpai;
 use wire::{Fault, Refusal, Written};
 
-#[derive(Drop)]
+#[derive(Clone, Copy)]
 pub struct ConnectionStateRequest {
     pub channel_id: u8,
     pub control_endpoint: Hpai,
 }
 
-#[derive(Drop)]
+#[derive(Clone, Copy)]
 pub struct ConnectionStateResponse {
     pub channel_id: u8,
     pub status: u8,
 }
 
-#[derive(Drop)]
+#[derive(Clone, Copy)]
 pub enum ConnectionStateAnswer {
     Response(ConnectionStateResponse),
     Refused(Fault),
 }
 
-#[derive(Drop)]
+#[derive(Clone, Copy)]
 pub struct DisconnectRequest {
     pub channel_id: u8,
     pub control_endpoint: Hpai,
 }
 
 // It holds an array, so a struct has the number beside it.
-#[derive(Drop)]
+#[derive(Clone, Copy)]
 pub struct DisconnectRequestAnswer {
     pub number: u8,
     pub request: DisconnectRequest,
     pub offset: usize,
 }
 
-#[derive(Drop)]
+#[derive(Clone, Copy)]
 pub struct DisconnectResponse {
     pub channel_id: u8,
     pub status: u8,
 }
 
-#[derive(Drop)]
+#[derive(Clone, Copy)]
 pub enum DisconnectAnswer {
     Response(DisconnectResponse),
     Refused(Fault),
 }
 
 // What both responses hold.
-#[derive(Drop)]
+#[derive(Clone, Copy)]
 pub(crate) struct Status {
     pub(crate) channel_id: u8,
     pub(crate) status: u8,
 }
 
-#[derive(Drop)]
+#[derive(Clone, Copy)]
 pub(crate) enum StatusAnswer {
     Status(Status),
     Refused(Fault),

@@ -5,7 +5,7 @@ use address::IndividualAddress;
 use hpai::Hpai;
 use wire::Refusal;
 
-#[derive(Drop)]
+#[derive(Clone, Copy)]
 pub struct ConnectResponse {
     pub channel_id: u8,
     pub status: u8,
@@ -13,7 +13,7 @@ pub struct ConnectResponse {
     pub crd: [u8; 4],
 }
 
-#[derive(Drop)]
+#[derive(Clone, Copy)]
 pub struct ConnectResponseAnswer {
     pub number: u8,
     pub response: ConnectResponse,

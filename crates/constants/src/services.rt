@@ -13,7 +13,7 @@ pub const SERVICE_TUNNELING_REQUEST: u16 = 0x0420;
 
 pub const SERVICE_TUNNELING_ACK: u16 = 0x0421;
 
-#[derive(Drop)]
+#[derive(Clone, Copy)]
 pub enum ServiceType {
     ConnectRequest,
     ConnectResponse,
@@ -25,7 +25,7 @@ pub enum ServiceType {
     TunnellingAck,
 }
 
-#[derive(Drop)]
+#[derive(Clone, Copy)]
 pub enum ServiceAnswer {
     Service(ServiceType),
     Refused(Fault),

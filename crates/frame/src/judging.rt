@@ -4,7 +4,7 @@ ghost use Rattle.frame.specs.Judging.{JudgePromise};
 use crate::frame::{FrameAnswer, FrameFields};
 
 // A number of 01 and, where it is 0, the frame's service and total length, else the offset of the field that decided.
-#[derive(Drop)]
+#[derive(Clone, Copy)]
 pub struct Judged {
     pub number: u8,
     pub service: u16,

@@ -6,7 +6,7 @@ ghost use Rattle.hpai.specs.Hpai.{NewPromise, ParsePromise, EncodePromise, ToByt
 use constants::IPV4_UDP;
 use wire::{Fault, Refusal, Written};
 
-#[derive(Drop)]
+#[derive(Clone, Copy)]
 pub struct Hpai {
     pub structure_length: u8,
     pub host_protocol: u8,
@@ -14,7 +14,7 @@ pub struct Hpai {
     pub port: u16,
 }
 
-#[derive(Drop)]
+#[derive(Clone, Copy)]
 pub struct HpaiAnswer {
     pub number: u8,
     pub hpai: Hpai,

@@ -5,7 +5,7 @@ ghost use Rattle.inspect_io.specs.Reading.{StopsPromise, ReadMore, ReadStartProm
 use inspection::Progress;
 
 // The capture goes on; it ended; a read failed, which is not its end; a write failed; or it has more records than are counted.
-#[derive(Drop)]
+#[derive(Clone, Copy)]
 pub(crate) enum Went {
     On,
     Ended,
@@ -14,7 +14,7 @@ pub(crate) enum Went {
     TooLong,
 }
 
-#[derive(Drop)]
+#[derive(Clone, Copy)]
 pub(crate) struct Turned {
     pub(crate) progress: Progress,
     pub(crate) went: Went,

@@ -7,7 +7,7 @@ use kip::Next;
 use wire::{Refusal, Written};
 
 // How far a buffer's records are handed on, how much of the output is used, and how many records there were.
-#[derive(Drop)]
+#[derive(Clone, Copy)]
 pub struct Spot {
     pub at: usize,
     pub used: usize,
@@ -15,14 +15,14 @@ pub struct Spot {
 }
 
 // Why a scan stopped: no whole record is left, a line has no room, or the last record has the largest number.
-#[derive(Drop)]
+#[derive(Clone, Copy)]
 pub enum Stop {
     Short,
     Full,
     Last,
 }
 
-#[derive(Drop)]
+#[derive(Clone, Copy)]
 pub struct Scanned {
     pub spot: Spot,
     pub stop: Stop,

@@ -6,7 +6,7 @@ ghost use Rattle.inspection.specs.Turns.{BeginPromise, WrittenOutPromise, ReadOn
 use crate::scanning::Spot;
 
 // Where the scan is, and how far the input buffer is read.
-#[derive(Drop)]
+#[derive(Clone, Copy)]
 pub struct Progress {
     pub spot: Spot,
     pub have: usize,

@@ -5,7 +5,7 @@ ghost use Rattle.kip.specs.Capture.{StartsPromise, NextPromise};
 pub const START_SIZE: usize = 5;
 
 // The next record's datagram, or that the buffer does not hold all of it.
-#[derive(Drop)]
+#[derive(Clone, Copy)]
 pub enum Next {
     Record { start: usize, end: usize },
     Short,

@@ -13,7 +13,7 @@ use wire::Written;
 
 // How many bytes were written, and a number of 01. The offset is 0: a builder reads no datagram.
 #[repr(C)]
-#[derive(Drop)]
+#[derive(Clone, Copy)]
 pub struct KnxWritten {
     pub count: usize,
     pub offset: u32,
@@ -22,7 +22,7 @@ pub struct KnxWritten {
 
 // An IPv4 address and a UDP port.
 #[repr(C)]
-#[derive(Drop)]
+#[derive(Clone, Copy)]
 pub struct KnxEndpoint {
     pub address: [u8; 4],
     pub port: u16,

@@ -11,7 +11,7 @@ use wire::{Fault, Refusal};
 
 // A number of 01 and, beside 0, what is said, the view and the count of bytes written to the output; else the offset of the field that decided.
 #[repr(C)]
-#[derive(Drop)]
+#[derive(Clone, Copy)]
 pub struct KnxCalled {
     pub offset: usize,
     pub start: usize,

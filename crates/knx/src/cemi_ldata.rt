@@ -10,7 +10,7 @@ use wire::Fault;
 
 // A number of 01 and, beside 0, the fields of cEMI and L_Data, and where the data stands in the cEMI bytes; else the offset of the field that decided.
 #[repr(C)]
-#[derive(Drop)]
+#[derive(Clone, Copy)]
 pub struct KnxLData {
     pub offset: usize,
     pub start: usize,
@@ -97,7 +97,7 @@ fn read(counting: Counting, data: &[u8], fields: LDataFields) -> KnxLData
 }
 
 // The APCI in three numbers, and the six-bit number.
-#[derive(Drop)]
+#[derive(Clone, Copy)]
 struct Service {
     apci_named: u8,
     apci_code: u16,

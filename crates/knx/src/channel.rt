@@ -6,7 +6,7 @@ use wire::Fault;
 
 // A number of 01 and, beside 0, a channel and its status; else the offset of the field that decided.
 #[repr(C)]
-#[derive(Drop)]
+#[derive(Clone, Copy)]
 pub struct KnxStatus {
     pub offset: usize,
     pub channel: u8,
@@ -16,7 +16,7 @@ pub struct KnxStatus {
 
 // A number of 01 and, beside 0, a channel and the gateway's control endpoint; else the offset of the field that decided.
 #[repr(C)]
-#[derive(Drop)]
+#[derive(Clone, Copy)]
 pub struct KnxDisconnectRequest {
     pub offset: usize,
     pub channel: u8,

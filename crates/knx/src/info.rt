@@ -15,7 +15,7 @@ use wire::{View, Written};
 
 // A number of 01 and, beside 0, a part of the input; else the offset of the field that decided.
 #[repr(C)]
-#[derive(Drop)]
+#[derive(Clone, Copy)]
 pub struct KnxPart {
     pub offset: usize,
     pub start: usize,
@@ -25,7 +25,7 @@ pub struct KnxPart {
 
 // A number of 01 and, beside 0 and where one was found, a record: where its data stands, its type, its timestamp; else the offset of the field that decided.
 #[repr(C)]
-#[derive(Drop)]
+#[derive(Clone, Copy)]
 pub struct KnxAdditionalInfo {
     pub offset: usize,
     pub start: usize,
@@ -40,7 +40,7 @@ pub struct KnxAdditionalInfo {
 
 // A number of 01 and, beside 0, how many there are; else the offset of the field that decided.
 #[repr(C)]
-#[derive(Drop)]
+#[derive(Clone, Copy)]
 pub struct KnxCount {
     pub offset: usize,
     pub count: usize,

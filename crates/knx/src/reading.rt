@@ -7,7 +7,7 @@ use hpai::Hpai;
 
 // A number of 01 and, beside 0, where the body stands, the service and the total length; else the offset of the field that decided.
 #[repr(C)]
-#[derive(Drop)]
+#[derive(Clone, Copy)]
 pub struct KnxFrame {
     pub offset: usize,
     pub start: usize,
@@ -19,7 +19,7 @@ pub struct KnxFrame {
 
 // A number of 01 and, beside 0, the fields of an Hpai; else the offset of the field that decided.
 #[repr(C)]
-#[derive(Drop)]
+#[derive(Clone, Copy)]
 pub struct KnxHpai {
     pub offset: usize,
     pub structure_length: u8,
@@ -31,7 +31,7 @@ pub struct KnxHpai {
 
 // A number of 01 and, beside 0, the fields of a connect response; else the offset of the field that decided.
 #[repr(C)]
-#[derive(Drop)]
+#[derive(Clone, Copy)]
 pub struct KnxConnectResponse {
     pub offset: usize,
     pub channel: u8,

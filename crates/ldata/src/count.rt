@@ -5,7 +5,7 @@ ghost use Rattle.ldata.specs.Count.{count_by, standard_allows, DataStartPromise,
 use crate::ldata::LDataFields;
 use pci::Apci;
 
-#[derive(Drop)]
+#[derive(Clone, Copy)]
 pub enum Counting {
     Crate,
     Standard,

@@ -11,7 +11,7 @@ use control::{ControlField1, ControlField2};
 use pci::{Apci, Tpci};
 use wire::{Fault, Refusal, Standing, View};
 
-#[derive(Drop)]
+#[derive(Clone, Copy)]
 pub struct LDataFields {
     pub ctrl1: ControlField1,
     pub ctrl2: ControlField2,
@@ -22,7 +22,7 @@ pub struct LDataFields {
     pub apci: Apci,
 }
 
-#[derive(Drop)]
+#[derive(Clone, Copy)]
 pub enum LDataAnswer {
     Frame(LDataFields),
     Refused(Fault),

@@ -4,7 +4,7 @@ ghost use Rattle.replay.specs.Records.{Number24Promise, FillPromise, EndedPromis
 use crate::lines;
 
 // Whether there was a record, its call, how many argument bytes it has and how many it lends.
-#[derive(Drop)]
+#[derive(Clone, Copy)]
 pub struct Record {
     pub more: bool,
     pub call: u8,

@@ -5,7 +5,7 @@ ghost use Rattle.replay.specs.Telling.{RefusedPromise, FewPromise, LocatedPromis
 use wire::{Fault, Written};
 
 // A number of 01 and the first `count` of the values; `lends` where the buffer is shown too; the offsets of the refusals that the line tells.
-#[derive(Drop)]
+#[derive(Clone, Copy)]
 pub struct Told {
     pub number: u8,
     pub count: usize,

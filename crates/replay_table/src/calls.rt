@@ -5,7 +5,7 @@ use tunnel_table::{Called, Hold, Place, Table};
 use tunnelling::Form;
 
 // What a call told, and the table after it.
-#[derive(Drop)]
+#[derive(Clone, Copy)]
 pub(crate) struct Carried {
     pub(crate) told: Told,
     pub(crate) table: Table,

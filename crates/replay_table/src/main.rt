@@ -7,7 +7,7 @@ mod calls;
 use tunnel_table::Table;
 
 // Whether there was a record, and the table of tunnels after it.
-#[derive(Drop)]
+#[derive(Clone, Copy)]
 struct Turned {
     more: bool,
     table: Table,

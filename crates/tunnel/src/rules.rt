@@ -2,7 +2,7 @@
 ghost use Rattle.std.specs.Prelude.{◌≡◌};
 ghost use Rattle.tunnel.specs.Rules.{stays, FreshPromise, WaitsPromise, TimeoutPromise, ArrivalPromise, DeliveredPromise, AcknowledgedPromise, SendingPromise};
 
-#[derive(Drop)]
+#[derive(Clone, Copy)]
 pub enum Wait {
     Idle,
     First,
@@ -10,7 +10,7 @@ pub enum Wait {
 }
 
 // An open channel: the number that is expected, the number that is sent, and what it waits for.
-#[derive(Drop)]
+#[derive(Clone, Copy)]
 pub struct Tunnel {
     pub r: u8,
     pub s: u8,
@@ -18,7 +18,7 @@ pub struct Tunnel {
 }
 
 // The quoted answers; `Nothing` where 01 gives a number alone.
-#[derive(Drop)]
+#[derive(Clone, Copy)]
 pub enum Said {
     Nothing,
     Repeat,
@@ -31,7 +31,7 @@ pub enum Said {
 }
 
 // What a request's number means to a channel.
-#[derive(Drop)]
+#[derive(Clone, Copy)]
 pub enum Arrival {
     Deliver,
     Duplicate,
@@ -39,14 +39,14 @@ pub enum Arrival {
 }
 
 // What a step leaves of a channel.
-#[derive(Drop)]
+#[derive(Clone, Copy)]
 pub enum Left {
     Open(Tunnel),
     Closed,
 }
 
 // A number of 01, what is said beside 0, and what is left of the channel.
-#[derive(Drop)]
+#[derive(Clone, Copy)]
 pub struct Stepped {
     pub number: u8,
     pub said: Said,

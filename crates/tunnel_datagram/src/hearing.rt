@@ -21,7 +21,7 @@ pub const CEMI_START: usize = 10;
 pub const CHANNEL_OFFSET: usize = 7;
 
 // A request's cEMI frame runs from there to the end of its frame.
-#[derive(Drop)]
+#[derive(Clone, Copy)]
 pub enum Heard {
     Request { channel: u8, number: u8, end: usize },
     Ack { channel: u8, number: u8, status: u8 },

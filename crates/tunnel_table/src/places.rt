@@ -5,26 +5,26 @@ ghost use Rattle.tunnel_table.specs.Places.{kind, tunnel_in, left_in, passing, s
 
 use tunnel::{Left, Tunnel};
 
-#[derive(Drop)]
+#[derive(Clone, Copy)]
 pub enum Hold {
     Free,
     Held { id: u8, tunnel: Tunnel },
 }
 
-#[derive(Drop)]
+#[derive(Clone, Copy)]
 pub struct Place {
     pub hold: Hold,
 }
 
 // What is looked for: the place of a channel, or a free one.
-#[derive(Drop)]
+#[derive(Clone, Copy)]
 pub(crate) enum Wanted {
     Channel(u8),
     Free,
 }
 
 // What the search yields.
-#[derive(Drop)]
+#[derive(Clone, Copy)]
 pub(crate) enum Found {
     At(usize),
     Nothing,

@@ -14,13 +14,13 @@ use tunnel_datagram::{CEMI_START, CHANNEL_OFFSET, Heard};
 use tunnelling::{ConnectionHeader, Form, TunnelingAck, TunnelingRequest};
 use wire::{Fault, Refusal, Written};
 
-#[derive(Drop)]
+#[derive(Clone, Copy)]
 pub struct Table {
     pub places: [Place; 8],
 }
 
 // A number of 01 and, beside 0, what is said, the view and the count of bytes written; and the table afterwards.
-#[derive(Drop)]
+#[derive(Clone, Copy)]
 pub struct Called {
     pub number: u8,
     pub said: Said,
@@ -32,7 +32,7 @@ pub struct Called {
 }
 
 // What follows from a request that is acknowledged: what is said, the view, and the channel afterwards.
-#[derive(Drop)]
+#[derive(Clone, Copy)]
 struct Reaction {
     said: Said,
     start: usize,

@@ -2,7 +2,7 @@
 ghost use Rattle.std.specs.Prelude.{◌≡◌};
 ghost use Rattle.tunnelling.specs.AckForm.{form_by};
 
-#[derive(Drop)]
+#[derive(Clone, Copy)]
 pub enum Form {
     Crate,
     Standard,
