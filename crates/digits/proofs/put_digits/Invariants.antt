@@ -1,0 +1,11 @@
+use Rattle.std.proofs.Common.{ℕ, ◌+◌, ◌-◌, ◌%◌, ◌≤◌, arith, ◌≡◌, refl, sym, ap, ◌∙◌, ◌++◌, length, take, drop, length-set, rules}
+use Rattle.wire.specs.LayoutLaws.{copied_is}
+use Rattle.digits.specs.Digits.{last_digits}
+use Rattle.digits.specs.DigitLaws.{standing, last_length, digit_turn, digits_stand, none_stored, unfit_stored}
+use Rattle.digits.proofs.put_digits.Given as goal
+
+abbrev pub invariant-loop-i : goal.invariant-loop-i
+invariant-loop-i l = (l.at ≤ l.i) × (l.i ≤ l.end) × (length l.out ≡ length l.initial.out) × (standing l.out l.at l.i l.rest ≡ take l.at l.initial.out ++ last_digits (l.end - l.at) l.n ++ drop l.end l.initial.out)
+
+abbrev pub decreases-loop-i : goal.decreases-loop-i
+decreases-loop-i l = l.i - l.at
