@@ -1,0 +1,10 @@
+use Rattle.std.proofs.Common.{◌-◌, ◌≤◌, arith, ◌≡◌, rules}
+use Rattle.additional_info.specs.Area.{WalkPromise}
+use Rattle.additional_info.specs.AreaSteps.{to, walk_none, turn}
+use Rattle.additional_info.proofs.area.past.Given as goal
+
+abbrev pub invariant-loop-records : goal.invariant-loop-records
+invariant-loop-records l = (l.records ≤ l.n) × WalkPromise l.records l.area (to l.records l.at)
+
+abbrev pub decreases-loop-records : goal.decreases-loop-records
+decreases-loop-records l = l.n - l.records
