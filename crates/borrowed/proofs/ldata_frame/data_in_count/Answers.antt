@@ -1,10 +1,5 @@
 -- `data_in_count` meets its contract: a walk of its MIR, by hand. The frame that `parse_in` returns stands in a local and is passed to `data_in`. All that the proof knows of the two is that each meets its contract. What the counting owns is had for nothing.
--- In a local of a body MIR erases the lifetime of the struct's type, so the value is shown to have the type at `erased`: what the struct owns does not say the lifetime's name.
--- Assumes nothing.
-use mathlib.Core.Path.{refl}
-use Prim.Native.Nat.{ℕ}
-use mathlib.Core.List.{List, [], ◌∷◌}
-use lib.ListN.{length}
+use Rattle.std.proofs.Common.{refl, ℕ, List, [], ◌∷◌, length, drop, Bor}
 use seplogic.Ra.Ura.{Ura}
 use mir.Syntax.{named, erased}
 use mir.Val.{Val}
@@ -17,19 +12,18 @@ use types.Logic.{Logic, sem}
 use contract.Lifetimes.{Lfts}
 use contract.Monad.{Fun, fact}
 use contract.Running.{tables, tables_of}
-use types.Kit.{‵, raw, ◌⊛◌, ⋆, some, later, ◌$◌, ◌∵◌, !, qed, by, move, drop, use1, use2, split, join, pick, fsplit, fjoin, suffices, frame, await, done}
+use types.Kit.{‵, raw, ◌⊛◌, ⋆, some, later, ◌$◌, ◌∵◌, !, qed, by, move, use1, use2, split, join, pick, fsplit, fjoin, suffices, frame, await, done}
 use types.Run.{look, init, forget, stop, from, load, and_then, no_more, land, returns, enter, alloc1, alloc0, params1, pass1, pass0, free1, free0}
 use sound.WpLaws.{FmC, fm_of, WpFn-mono}
 use denote.RattleType.{RattleType, owns}
 use denote.Laws.{Is, shows}
 use denote.Builtin.{u8}
-use denote.Ref.{Bor, NamedLft}
+use denote.Ref.{NamedLft}
 use denote.Signature.{plain, named_lft}
 use denote.Slice.{slice_val, ShrSlice, shr_slice_vals, shr_slice_Tells, shr_slice_Lawful, shr_slice_copy}
 use denote.Steps.{peeks, heard, nothing}
 use denote.Enum.Laws as EL
 use denote.Struct.Laws as LL
-use denote.Triple.Statement.{Contract, Triple}
 use denote.Triple.Call.{calls_at}
 use denote.Triple.Entry.{Vals, on_entry}
 use denote.Triple.Spec.{Meets, triple_of}
@@ -57,10 +51,9 @@ use Rattle.borrowed.proofs.ldata_frame.LDataFrame.data_in.Symbol.{name as #read}
 use Rattle.borrowed.proofs.ldata_frame.LDataFrame.data_in.Met as read-thm
 use Rattle.borrowed.specs.contracts.ldata_frame.data_in_count.Key.{name as #fn}
 use Rattle.borrowed.specs.contracts.ldata_frame.data_in_count as fn
-use Rattle.borrowed.proofs.ldata_frame.data_in_count.Statement as stated
 use Rattle.borrowed.proofs.ldata_frame.data_in_count.Code as code
+use Rattle.borrowed.proofs.ldata_frame.data_in_count.Goals as goal
 
--- the struct's type, over the signature's lifetimes
 abbrev B : Lfts 1 → RattleType
 B κs = T.the_row (named_lft 1 0 tt κs)
 

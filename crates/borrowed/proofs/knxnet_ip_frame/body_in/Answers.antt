@@ -1,10 +1,5 @@
 -- `body_in` meets its contract: a walk of its MIR, by hand. The frame that `parse` returns stands in a local and passed to `body`. All that the proof knows of the two is that each meets its contract.
--- In a local of a body MIR erases the lifetime of the struct's type, so the value is shown to have the type at `erased`: what the struct owns does not say the lifetime's name.
--- Assumes nothing.
-use mathlib.Core.Path.{refl}
-use Prim.Native.Nat.{ℕ}
-use mathlib.Core.List.{List, [], ◌∷◌}
-use lib.ListN.{length}
+use Rattle.std.proofs.Common.{refl, ℕ, List, [], ◌∷◌, length, Bor}
 use seplogic.Ra.Ura.{Ura}
 use mir.Syntax.{named, erased}
 use mir.Val.{Val}
@@ -23,12 +18,11 @@ use sound.WpLaws.{FmC, fm_of, WpFn-mono}
 use denote.RattleType.{RattleType, owns}
 use denote.Laws.{Is, shows}
 use denote.Builtin.{u8}
-use denote.Ref.{Bor, NamedLft}
+use denote.Ref.{NamedLft}
 use denote.Signature.{plain, named_lft}
 use denote.Slice.{slice_val, ShrSlice, shr_slice_vals, shr_slice_Tells, shr_slice_Lawful, shr_slice_copy}
 use denote.Steps.{peeks, heard, nothing}
 use denote.Struct.Laws as LL
-use denote.Triple.Statement.{Contract, Triple}
 use denote.Triple.Call.{calls_at}
 use denote.Triple.Entry.{on_entry}
 use denote.Triple.Spec.{Meets, triple_of}
@@ -51,10 +45,9 @@ use Rattle.borrowed.proofs.knxnet_ip_frame.KnxnetIpFrame.body.Symbol.{name as #r
 use Rattle.borrowed.proofs.knxnet_ip_frame.KnxnetIpFrame.body.Met as read-thm
 use Rattle.borrowed.specs.contracts.knxnet_ip_frame.body_in.Key.{name as #fn}
 use Rattle.borrowed.specs.contracts.knxnet_ip_frame.body_in as fn
-use Rattle.borrowed.proofs.knxnet_ip_frame.body_in.Statement as stated
 use Rattle.borrowed.proofs.knxnet_ip_frame.body_in.Code as code
+use Rattle.borrowed.proofs.knxnet_ip_frame.body_in.Goals as goal
 
--- the struct's type, over the signature's lifetimes
 abbrev B : Lfts 1 → RattleType
 B κs = T.the_row (named_lft 1 0 tt κs)
 
