@@ -1,0 +1,12 @@
+use Rattle.std.proofs.Common.{ℕ, ◌≤◌, ◌-◌, arith, ◌≡◌, refl, ap, sym, ◌∙◌, [], ◌∷◌, length, take, rules, lt-ltb, le-ltb}
+use Rattle.wire.specs.Told.{done}
+use Rattle.wire.specs.Writing.{onto}
+use Rattle.tunnel_image.specs.Image.{packed}
+use Rattle.tunnel_image.specs.ImageLaws.{forty, packed_turn, packed_all}
+use Rattle.tunnel_image.proofs.image.pack.Given as goal
+
+abbrev pub invariant-loop-i : goal.invariant-loop-i
+invariant-loop-i l = (l.i ≤ 8) × (length l.places ≡ 8) × (l.image ≡ onto l.initial.image (packed (take l.i l.places))) × (length l.image ≡ length l.initial.image)
+
+abbrev pub decreases-loop-i : goal.decreases-loop-i
+decreases-loop-i l = 8 - l.i
