@@ -1,6 +1,7 @@
 -- The border's builders: how a builder's answer is told, no second answer, and a refusal leaves the buffer. Assumes nothing.
 use Rattle.std.specs.Prelude.{◌≡◌, refl, List, [], ◌∷◌, ◌++◌, ℕ, get_or}
 use Rattle.std.proofs.Common.{sym, ap, subst, ◌∙◌}
+use Rattle.wire.specs.Told.{Told}
 use Rattle.wire.specs.ToldLaws.{one_to_one}
 use Rattle.wire.specs.Refusing.{Refusing, Leaves}
 use Rattle.wire.specs.Writing as Writing
@@ -80,4 +81,4 @@ disconnect_response_one channel status b = tells_one (Channel.DisconnectResponse
 pub tells-refusing : (P : Written → List ℕ → Type 0) (b : List ℕ)
     → ((w : Written) (after : List ℕ) → P w after → Refusing (Writing.told w) × Leaves (Writing.told w) b after)
     → (r : KnxWritten) (after : List ℕ) → Tells P r after → Refusing (told r) × Leaves (told r) b after
-tells-refusing P b law r after x = rw x.tells (law x.answer after x.keeps)
+tells-refusing P b law r after x = subst (λ (t : Told). Refusing t × Leaves t b after) (sym x.tells) (law x.answer after x.keeps)

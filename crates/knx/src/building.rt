@@ -28,8 +28,7 @@ pub struct KnxEndpoint {
     pub port: u16,
 }
 
-#[unsafe(no_mangle)]
-pub extern "C" fn knx_ldata_build(
+pub fn knx_ldata_build(
     control_1: u8,
     control_2: u8,
     source: u16,
@@ -57,8 +56,7 @@ pub extern "C" fn knx_ldata_build(
 }
 
 // In KNX's own count, and for control packets too, whose control code stands in the place of the APCI code.
-#[unsafe(no_mangle)]
-pub extern "C" fn knx_ldata_build_standard(
+pub fn knx_ldata_build_standard(
     control_1: u8,
     control_2: u8,
     source: u16,
@@ -85,70 +83,42 @@ pub extern "C" fn knx_ldata_build_standard(
     )
 }
 
-#[unsafe(no_mangle)]
-pub extern "C" fn knx_connect_request(
-    control: KnxEndpoint,
-    data: KnxEndpoint,
-    out: &mut [u8],
-) -> KnxWritten
+pub fn knx_connect_request(control: KnxEndpoint, data: KnxEndpoint, out: &mut [u8]) -> KnxWritten
     ensures { ConnectRequestPromise control «data» out.old result out.new }
 {
     let request = ConnectRequest::new(endpoint(control), endpoint(data));
     written(request.build(out))
 }
 
-#[unsafe(no_mangle)]
-pub extern "C" fn knx_connectionstate_request(
-    channel: u8,
-    control: KnxEndpoint,
-    out: &mut [u8],
-) -> KnxWritten
+pub fn knx_connectionstate_request(channel: u8, control: KnxEndpoint, out: &mut [u8]) -> KnxWritten
     ensures { ConnectionStateRequestPromise channel control out.old result out.new }
 {
     let request = ConnectionStateRequest::new(channel, endpoint(control));
     written(request.build(out))
 }
 
-#[unsafe(no_mangle)]
-pub extern "C" fn knx_disconnect_request(
-    channel: u8,
-    control: KnxEndpoint,
-    out: &mut [u8],
-) -> KnxWritten
+pub fn knx_disconnect_request(channel: u8, control: KnxEndpoint, out: &mut [u8]) -> KnxWritten
     ensures { DisconnectRequestPromise channel control out.old result out.new }
 {
     let request = DisconnectRequest::new(channel, endpoint(control));
     written(request.build(out))
 }
 
-#[unsafe(no_mangle)]
-pub extern "C" fn knx_tunneling_request(
-    channel: u8,
-    sequence: u8,
-    cemi: &[u8],
-    out: &mut [u8],
-) -> KnxWritten
+pub fn knx_tunneling_request(channel: u8, sequence: u8, cemi: &[u8], out: &mut [u8]) -> KnxWritten
     ensures { TunnelingRequestPromise channel sequence cemi.now out.old result out.new }
 {
     let request = TunnelingRequest::new(ConnectionHeader::new(channel, sequence));
     written(request.build(cemi, out))
 }
 
-#[unsafe(no_mangle)]
-pub extern "C" fn knx_tunneling_ack(
-    channel: u8,
-    sequence: u8,
-    status: u8,
-    out: &mut [u8],
-) -> KnxWritten
+pub fn knx_tunneling_ack(channel: u8, sequence: u8, status: u8, out: &mut [u8]) -> KnxWritten
     ensures { TunnelingAckPromise channel sequence status out.old result out.new }
 {
     tunneling_ack_in(Form::Crate, channel, sequence, status, out)
 }
 
 // In KNX's own form.
-#[unsafe(no_mangle)]
-pub extern "C" fn knx_tunneling_ack_standard(
+pub fn knx_tunneling_ack_standard(
     channel: u8,
     sequence: u8,
     status: u8,
@@ -160,12 +130,7 @@ pub extern "C" fn knx_tunneling_ack_standard(
 }
 
 // The answer to a disconnect request that the gateway sent.
-#[unsafe(no_mangle)]
-pub extern "C" fn knx_disconnect_response_build(
-    channel: u8,
-    status: u8,
-    out: &mut [u8],
-) -> KnxWritten
+pub fn knx_disconnect_response_build(channel: u8, status: u8, out: &mut [u8]) -> KnxWritten
     ensures { DisconnectResponseBuildPromise channel status out.old result out.new }
 {
     let response = DisconnectResponse::new(channel, status);

@@ -21,8 +21,7 @@ pub struct KnxCalled {
     pub number: u8,
 }
 
-#[unsafe(no_mangle)]
-pub extern "C" fn knx_table_empty(image: &mut [u8]) -> KnxWritten
+pub fn knx_table_empty(image: &mut [u8]) -> KnxWritten
     ensures { EmptyPromise image.old result image.new }
 {
     let table = Table::empty();
@@ -30,8 +29,7 @@ pub extern "C" fn knx_table_empty(image: &mut [u8]) -> KnxWritten
     building::written(tunnel_image::pack(places, image))
 }
 
-#[unsafe(no_mangle)]
-pub extern "C" fn knx_table_open(image: &mut [u8], id: u8) -> KnxCalled
+pub fn knx_table_open(image: &mut [u8], id: u8) -> KnxCalled
     ensures { OpenPromise image.old id result image.new }
 {
     if image.len() < tunnel_image::SIZE {
@@ -42,8 +40,7 @@ pub extern "C" fn knx_table_open(image: &mut [u8], id: u8) -> KnxCalled
     called(answer)
 }
 
-#[unsafe(no_mangle)]
-pub extern "C" fn knx_table_close(image: &mut [u8], id: u8) -> KnxCalled
+pub fn knx_table_close(image: &mut [u8], id: u8) -> KnxCalled
     ensures { ClosePromise image.old id result image.new }
 {
     if image.len() < tunnel_image::SIZE {
@@ -54,8 +51,7 @@ pub extern "C" fn knx_table_close(image: &mut [u8], id: u8) -> KnxCalled
     called(answer)
 }
 
-#[unsafe(no_mangle)]
-pub extern "C" fn knx_table_timeout(image: &mut [u8], id: u8) -> KnxCalled
+pub fn knx_table_timeout(image: &mut [u8], id: u8) -> KnxCalled
     ensures { TimeoutPromise image.old id result image.new }
 {
     if image.len() < tunnel_image::SIZE {
@@ -66,8 +62,7 @@ pub extern "C" fn knx_table_timeout(image: &mut [u8], id: u8) -> KnxCalled
     called(answer)
 }
 
-#[unsafe(no_mangle)]
-pub extern "C" fn knx_table_send(image: &mut [u8], id: u8, cemi: &[u8], out: &mut [u8]) -> KnxCalled
+pub fn knx_table_send(image: &mut [u8], id: u8, cemi: &[u8], out: &mut [u8]) -> KnxCalled
     ensures { SendPromise image.old id cemi.now out.old result image.new out.new }
 {
     if image.len() < tunnel_image::SIZE {
@@ -78,20 +73,14 @@ pub extern "C" fn knx_table_send(image: &mut [u8], id: u8, cemi: &[u8], out: &mu
     called(answer)
 }
 
-#[unsafe(no_mangle)]
-pub extern "C" fn knx_table_datagram(image: &mut [u8], bytes: &[u8], out: &mut [u8]) -> KnxCalled
+pub fn knx_table_datagram(image: &mut [u8], bytes: &[u8], out: &mut [u8]) -> KnxCalled
     ensures { DatagramPromise image.old bytes.now out.old result image.new out.new }
 {
     table_datagram_in(Form::Crate, image, bytes, out)
 }
 
 // With acknowledgements in KNX's own form, both ways.
-#[unsafe(no_mangle)]
-pub extern "C" fn knx_table_datagram_standard(
-    image: &mut [u8],
-    bytes: &[u8],
-    out: &mut [u8],
-) -> KnxCalled
+pub fn knx_table_datagram_standard(image: &mut [u8], bytes: &[u8], out: &mut [u8]) -> KnxCalled
     ensures { DatagramStandardPromise image.old bytes.now out.old result image.new out.new }
 {
     table_datagram_in(Form::Standard, image, bytes, out)

@@ -30,15 +30,13 @@ pub struct KnxLData {
     pub number: u8,
 }
 
-#[unsafe(no_mangle)]
-pub extern "C" fn knx_cemi_ldata(data: &[u8]) -> KnxLData
+pub fn knx_cemi_ldata(data: &[u8]) -> KnxLData
     ensures { CemiLDataPromise «data».now result }
 {
     ldata_in(Counting::Crate, data)
 }
 
-#[unsafe(no_mangle)]
-pub extern "C" fn knx_cemi_ldata_standard(data: &[u8]) -> KnxLData
+pub fn knx_cemi_ldata_standard(data: &[u8]) -> KnxLData
     ensures { CemiLDataStandardPromise «data».now result }
 {
     ldata_in(Counting::Standard, data)

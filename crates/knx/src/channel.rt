@@ -27,22 +27,19 @@ pub struct KnxDisconnectRequest {
     pub number: u8,
 }
 
-#[unsafe(no_mangle)]
-pub extern "C" fn knx_connectionstate_response(body: &[u8]) -> KnxStatus
+pub fn knx_connectionstate_response(body: &[u8]) -> KnxStatus
     ensures { StatusPromise body.now result }
 {
     status_in(body)
 }
 
-#[unsafe(no_mangle)]
-pub extern "C" fn knx_disconnect_response(body: &[u8]) -> KnxStatus
+pub fn knx_disconnect_response(body: &[u8]) -> KnxStatus
     ensures { StatusPromise body.now result }
 {
     status_in(body)
 }
 
-#[unsafe(no_mangle)]
-pub extern "C" fn knx_disconnect_request_parse(body: &[u8]) -> KnxDisconnectRequest
+pub fn knx_disconnect_request_parse(body: &[u8]) -> KnxDisconnectRequest
     ensures { DisconnectRequestPromise body.now result }
 {
     let answer = DisconnectRequest::parse(body);

@@ -47,8 +47,7 @@ pub struct KnxCount {
     pub number: u8,
 }
 
-#[unsafe(no_mangle)]
-pub extern "C" fn knx_cemi_additional_info(data: &[u8]) -> KnxPart
+pub fn knx_cemi_additional_info(data: &[u8]) -> KnxPart
     ensures { KnxInfo.AreaPromise «data».now result }
 {
     match CEMIFrame::parse(data) {
@@ -57,22 +56,19 @@ pub extern "C" fn knx_cemi_additional_info(data: &[u8]) -> KnxPart
     }
 }
 
-#[unsafe(no_mangle)]
-pub extern "C" fn knx_additional_info(area: &[u8]) -> KnxAdditionalInfo
+pub fn knx_additional_info(area: &[u8]) -> KnxAdditionalInfo
     ensures { KnxInfo.FirstPromise area.now result }
 {
     record(AdditionalInfo::parse(area))
 }
 
-#[unsafe(no_mangle)]
-pub extern "C" fn knx_additional_info_nth(area: &[u8], n: usize) -> KnxAdditionalInfo
+pub fn knx_additional_info_nth(area: &[u8], n: usize) -> KnxAdditionalInfo
     ensures { KnxInfo.NthPromise area.now n result }
 {
     record(additional_info::nth(area, n))
 }
 
-#[unsafe(no_mangle)]
-pub extern "C" fn knx_additional_info_count(area: &[u8]) -> KnxCount
+pub fn knx_additional_info_count(area: &[u8]) -> KnxCount
     ensures { KnxInfo.CountPromise area.now result }
 {
     match additional_info::count(area) {
@@ -92,8 +88,7 @@ pub extern "C" fn knx_additional_info_count(area: &[u8]) -> KnxCount
     }
 }
 
-#[unsafe(no_mangle)]
-pub extern "C" fn knx_additional_info_append(
+pub fn knx_additional_info_append(
     area: &[u8],
     info_type: u8,
     data: &[u8],
@@ -105,8 +100,7 @@ pub extern "C" fn knx_additional_info_append(
     building::written(additional_info::append(area, t, data, out))
 }
 
-#[unsafe(no_mangle)]
-pub extern "C" fn knx_cemi_build(
+pub fn knx_cemi_build(
     message_code: u8,
     additional_info: &[u8],
     service_info: &[u8],

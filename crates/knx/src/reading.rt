@@ -44,8 +44,7 @@ pub struct KnxConnectResponse {
     pub number: u8,
 }
 
-#[unsafe(no_mangle)]
-pub extern "C" fn knx_frame_parse(data: &[u8]) -> KnxFrame
+pub fn knx_frame_parse(data: &[u8]) -> KnxFrame
     ensures { FramePromise «data».now result }
 {
     let judged = frame::judge(data);
@@ -66,8 +65,7 @@ fn body_start(number: u8) -> usize
     if number == 0 { 6 } else { 0 }
 }
 
-#[unsafe(no_mangle)]
-pub extern "C" fn knx_hpai_parse(data: &[u8]) -> KnxHpai
+pub fn knx_hpai_parse(data: &[u8]) -> KnxHpai
     ensures { HpaiPromise «data».now result }
 {
     let answer = Hpai::parse(data);
@@ -83,24 +81,21 @@ pub extern "C" fn knx_hpai_parse(data: &[u8]) -> KnxHpai
     }
 }
 
-#[unsafe(no_mangle)]
-pub extern "C" fn knx_connect_response(body: &[u8]) -> KnxConnectResponse
+pub fn knx_connect_response(body: &[u8]) -> KnxConnectResponse
     ensures { ConnectResponsePromise body.now result }
 {
     response_as(ConnectResponse::parse(body))
 }
 
 // In KNX's own form, in which a response that refuses ends behind its status.
-#[unsafe(no_mangle)]
-pub extern "C" fn knx_connect_response_standard(body: &[u8]) -> KnxConnectResponse
+pub fn knx_connect_response_standard(body: &[u8]) -> KnxConnectResponse
     ensures { ConnectResponseStandardPromise body.now result }
 {
     response_as(ConnectResponse::parse_standard(body))
 }
 
 // Our own individual address, which the gateway gave us with the channel.
-#[unsafe(no_mangle)]
-pub extern "C" fn knx_own_address(response: KnxConnectResponse) -> u16
+pub fn knx_own_address(response: KnxConnectResponse) -> u16
     ensures { OwnAddressPromise response result }
 {
     let crd = response.crd;
