@@ -10,12 +10,9 @@ use Rattle.additional_info.specs.InfoType.{type_of}
 use Rattle.additional_info.specs.InfoType as InfoType
 use Rattle.additional_info.specs.declared.info_type.AdditionalInfoType.{AdditionalInfoType}
 use Rattle.additional_info.specs.declared.area.Timestamp.{Timestamp}
-use Rattle.additional_info.specs.declared.area.Timestamp.TheVariants as Timestamp
 use Rattle.additional_info.specs.declared.area.AdditionalInfo.{AdditionalInfo}
 use Rattle.additional_info.specs.declared.area.AdditionalInfoAnswer.{AdditionalInfoAnswer}
-use Rattle.additional_info.specs.declared.area.AdditionalInfoAnswer.TheVariants as AdditionalInfoAnswer
 use Rattle.additional_info.specs.declared.area.CountAnswer.{CountAnswer}
-use Rattle.additional_info.specs.declared.area.CountAnswer.TheVariants as CountAnswer
 use Rattle.additional_info.specs.declared.area.Walked.{Walked}
 
 -- ---- the layout

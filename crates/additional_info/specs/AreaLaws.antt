@@ -21,12 +21,9 @@ use Rattle.additional_info.specs.Area.{Info, layout, Readable, code_in, length_i
 use Rattle.additional_info.specs.WalkLaws.{all-taken, behind_is, ended, fills_one, front_is, info-first, is_readable, one_more, passes, readable_passes, records_add, records-most, records-on, refuses, stands-first, stood}
 use Rattle.additional_info.specs.declared.info_type.AdditionalInfoType.{AdditionalInfoType}
 use Rattle.additional_info.specs.declared.area.Timestamp.{Timestamp}
-use Rattle.additional_info.specs.declared.area.Timestamp.TheVariants as Timestamp
 use Rattle.additional_info.specs.declared.area.AdditionalInfo.{AdditionalInfo}
 use Rattle.additional_info.specs.declared.area.AdditionalInfoAnswer.{AdditionalInfoAnswer}
-use Rattle.additional_info.specs.declared.area.AdditionalInfoAnswer.TheVariants as AdditionalInfoAnswer
 use Rattle.additional_info.specs.declared.area.CountAnswer.{CountAnswer}
-use Rattle.additional_info.specs.declared.area.CountAnswer.TheVariants as CountAnswer
 
 -- ---- where it was refused
 

@@ -16,9 +16,7 @@ use Rattle.additional_info.specs.declared.info_type.AdditionalInfoType.{Addition
 use Rattle.additional_info.specs.declared.area.Timestamp.{Timestamp}
 use Rattle.additional_info.specs.declared.area.AdditionalInfo.{AdditionalInfo}
 use Rattle.additional_info.specs.declared.area.AdditionalInfoAnswer.{AdditionalInfoAnswer}
-use Rattle.additional_info.specs.declared.area.AdditionalInfoAnswer.TheVariants as AdditionalInfoAnswer
 use Rattle.additional_info.specs.declared.area.CountAnswer.{CountAnswer}
-use Rattle.additional_info.specs.declared.area.CountAnswer.TheVariants as CountAnswer
 use Rattle.additional_info.specs.declared.area.Walked.{Walked}
 
 -- ---- for the code

@@ -23,9 +23,7 @@ use Rattle.ldata.specs.declared.ldata.LDataAnswer.{LDataAnswer}
 use Rattle.additional_info.specs.Appending.{area_checks}
 use Rattle.cemi.specs.declared.CEMIFrame.{CEMIFrame}
 use Rattle.cemi.specs.declared.CEMIAnswer.{CEMIAnswer}
-use Rattle.cemi.specs.declared.CEMIAnswer.TheVariants as CEMIAnswer
 use Rattle.cemi.specs.declared.InfoLengthAnswer.{InfoLengthAnswer}
-use Rattle.cemi.specs.declared.InfoLengthAnswer.TheVariants as InfoLengthAnswer
 
 -- message code, and the length of the additional information
 abbrev pub fields : List Field

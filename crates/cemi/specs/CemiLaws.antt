@@ -26,13 +26,10 @@ use Rattle.ldata.specs.LDataLaws as LDataLaws
 use Rattle.ldata.specs.declared.count.Counting.{Counting}
 use Rattle.ldata.specs.declared.ldata.LDataFields.{LDataFields}
 use Rattle.ldata.specs.declared.ldata.LDataAnswer.{LDataAnswer}
-use Rattle.ldata.specs.declared.ldata.LDataAnswer.TheVariants as LDataAnswer
 use Rattle.cemi.specs.Cemi.{fields, format, code_in, info_length, checks, offsets, told, parse_where, ParsePromise, told_length, InfoLengthPromise, info_check, info_offset, ServiceInfoPromise, is_ldata, service_info, ldata_checks, ldata_offsets, rest_offsets, as_ldata_where, AsLDataInPromise}
 use Rattle.cemi.specs.declared.CEMIFrame.{CEMIFrame}
 use Rattle.cemi.specs.declared.CEMIAnswer.{CEMIAnswer}
-use Rattle.cemi.specs.declared.CEMIAnswer.TheVariants as CEMIAnswer
 use Rattle.cemi.specs.declared.InfoLengthAnswer.{InfoLengthAnswer}
-use Rattle.cemi.specs.declared.InfoLengthAnswer.TheVariants as InfoLengthAnswer
 
 -- ---- the two checks of a parse
 

@@ -7,21 +7,17 @@ use Rattle.wire.specs.Layout.{Field, byte, size, put}
 use Rattle.wire.specs.Format.{Format, found_in, read_by01, read_where}
 use Rattle.wire.specs.declared.refusals.Written.{Written}
 use Rattle.constants.specs.declared.services.ServiceType.{ServiceType}
-use Rattle.constants.specs.declared.services.ServiceType.TheVariants as ServiceType
 use Rattle.frame.specs.Write.{frame}
 use Rattle.hpai.specs.Hpai as Hpai
 use Rattle.hpai.specs.declared.Hpai.{Hpai}
 use Rattle.connect.specs.declared.channel.ConnectionStateRequest.{ConnectionStateRequest}
 use Rattle.connect.specs.declared.channel.ConnectionStateResponse.{ConnectionStateResponse}
 use Rattle.connect.specs.declared.channel.ConnectionStateAnswer.{ConnectionStateAnswer}
-use Rattle.connect.specs.declared.channel.ConnectionStateAnswer.TheVariants as ConnectionStateAnswer
 use Rattle.connect.specs.declared.channel.DisconnectRequest.{DisconnectRequest}
 use Rattle.connect.specs.declared.channel.DisconnectRequestAnswer.{DisconnectRequestAnswer}
 use Rattle.connect.specs.declared.channel.DisconnectResponse.{DisconnectResponse}
 use Rattle.connect.specs.declared.channel.DisconnectAnswer.{DisconnectAnswer}
-use Rattle.connect.specs.declared.channel.DisconnectAnswer.TheVariants as DisconnectAnswer
 use Rattle.connect.specs.declared.channel.StatusAnswer.{StatusAnswer}
-use Rattle.connect.specs.declared.channel.StatusAnswer.TheVariants as StatusAnswer
 
 -- ---- requests: channel, a zero, the control endpoint
 

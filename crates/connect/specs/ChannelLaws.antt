@@ -9,9 +9,7 @@ use Rattle.wire.specs.FormatLaws as FormatLaws
 use Rattle.wire.specs.LayoutLaws.{Bytes}
 use Rattle.wire.specs.WritingLaws.{writes_one}
 use Rattle.wire.specs.declared.refusals.Written.{Written}
-use Rattle.wire.specs.declared.refusals.Written.TheVariants as Written
 use Rattle.constants.specs.declared.services.ServiceType.{ServiceType}
-use Rattle.constants.specs.declared.services.ServiceType.TheVariants as ServiceType
 use Rattle.frame.specs.Write.{frame}
 use Rattle.frame.specs.Frame as Frame
 use Rattle.frame.specs.RoundTrip.{Carries, carries}
@@ -23,12 +21,10 @@ use Rattle.hpai.specs.declared.HpaiAnswer.{HpaiAnswer}
 use Rattle.connect.specs.EndpointLaws as EndpointLaws
 use Rattle.connect.specs.Channel.{request_layout, request_checks, RequestPromise, DisconnectBuildPromise, status_fields, status_format, status_where, status, told_state, StateParsePromise, told_disconnect, DisconnectParsePromise, request_fields, request_format, told_request, DisconnectRequestParsePromise, status_layout, response_checks, DisconnectResponseBuildPromise}
 use Rattle.connect.specs.declared.channel.ConnectionStateAnswer.{ConnectionStateAnswer}
-use Rattle.connect.specs.declared.channel.ConnectionStateAnswer.TheVariants as ConnectionStateAnswer
 use Rattle.connect.specs.declared.channel.DisconnectRequest.{DisconnectRequest}
 use Rattle.connect.specs.declared.channel.DisconnectRequestAnswer.{DisconnectRequestAnswer}
 use Rattle.connect.specs.declared.channel.DisconnectResponse.{DisconnectResponse}
 use Rattle.connect.specs.declared.channel.DisconnectAnswer.{DisconnectAnswer}
-use Rattle.connect.specs.declared.channel.DisconnectAnswer.TheVariants as DisconnectAnswer
 
 -- ---- requests, for any service
 

@@ -10,7 +10,6 @@ use Rattle.wire.specs.LayoutLaws.{Bytes}
 use Rattle.wire.specs.WritingLaws.{writes_one, wrote}
 use Rattle.wire.specs.declared.refusals.Refusal.TheVariants.{InvalidFrame}
 use Rattle.wire.specs.declared.refusals.Written.{Written}
-use Rattle.wire.specs.declared.refusals.Written.TheVariants as Written
 use Rattle.connect.specs.Cri.{fields, format, values, layout, told, decode_where, DecodePromise, encode_checks, EncodePromise}
 use Rattle.connect.specs.declared.cri.ConnectionRequestInfo.{ConnectionRequestInfo}
 use Rattle.connect.specs.declared.cri.ConnectionRequestInfoAnswer.{ConnectionRequestInfoAnswer}

@@ -3,7 +3,6 @@ use Rattle.std.specs.Prelude.{ℕ, ◌≡◌, List, [], ◌++◌, length, drop}
 use Rattle.std.proofs.Common.{arith, ap, ◌∙◌, append_assoc, length-append, drop_at}
 use Rattle.wire.specs.WritingLaws.{writes_one}
 use Rattle.wire.specs.declared.refusals.Written.{Written}
-use Rattle.wire.specs.declared.refusals.Written.TheVariants as Written
 use Rattle.constants.specs.declared.services.ServiceType.TheVariants as ServiceType
 use Rattle.frame.specs.Write.{frame}
 use Rattle.frame.specs.Frame as Frame
@@ -11,7 +10,6 @@ use Rattle.frame.specs.RoundTrip.{Carries, carries}
 use Rattle.frame.specs.declared.frame.FrameAnswer.{FrameAnswer}
 use Rattle.hpai.specs.Hpai as Hpai
 use Rattle.hpai.specs.HpaiLaws as HpaiLaws
-use Rattle.hpai.specs.declared.Hpai.{Hpai}
 use Rattle.hpai.specs.declared.HpaiAnswer.{HpaiAnswer}
 use Rattle.connect.specs.Cri as Cri
 use Rattle.connect.specs.CriLaws as CriLaws

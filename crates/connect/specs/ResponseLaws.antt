@@ -13,7 +13,6 @@ use Rattle.wire.specs.declared.refusals.Refusal.TheVariants.{BufferTooSmall}
 use Rattle.wire.specs.declared.refusals.Verdict.{Verdict}
 use Rattle.wire.specs.declared.refusals.Verdict.TheVariants.{Accept, Refuse}
 use Rattle.hpai.specs.Hpai as Hpai
-use Rattle.hpai.specs.declared.Hpai.{Hpai}
 use Rattle.hpai.specs.declared.HpaiAnswer.{HpaiAnswer}
 use Rattle.connect.specs.EndpointLaws as EndpointLaws
 use Rattle.connect.specs.Response.{fields, format, values, layout, checks, told, parse_where, Arrays, ParsePromise, bare, parse_standard_where, ParseStandardPromise}

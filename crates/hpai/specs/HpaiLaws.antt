@@ -9,7 +9,6 @@ use Rattle.wire.specs.FormatLaws as FormatLaws
 use Rattle.wire.specs.LayoutLaws.{Bytes, run-all, length-put}
 use Rattle.wire.specs.WritingLaws.{writes_one, wrote}
 use Rattle.wire.specs.declared.refusals.Written.{Written}
-use Rattle.wire.specs.declared.refusals.Written.TheVariants as Written
 use Rattle.hpai.specs.Hpai.{fields, format, values, layout, told, parse_where, ParsePromise, encode_checks, EncodePromise}
 use Rattle.hpai.specs.declared.Hpai.{Hpai}
 use Rattle.hpai.specs.declared.HpaiAnswer.{HpaiAnswer}

@@ -24,7 +24,6 @@ use Rattle.tunnelling.specs.Request as TunnelingRequest
 use Rattle.tunnelling.specs.Ack as TunnelingAck
 use Rattle.tunnelling.specs.AckForm as AckForm
 use Rattle.tunnelling.specs.declared.form.Form.{Form}
-use Rattle.tunnelling.specs.declared.form.Form.TheVariants as Form
 use Rattle.tunnelling.specs.declared.request.TunnelingRequest.{TunnelingRequest}
 use Rattle.tunnelling.specs.declared.ack.TunnelingAck.{TunnelingAck}
 use Rattle.knx.specs.declared.building.KnxWritten.{KnxWritten}

@@ -8,7 +8,6 @@ use Rattle.wire.specs.declared.refusals.Refusal.TheVariants.{BufferTooSmall}
 use Rattle.wire.specs.ToldLaws.{same, one_to_one, never_done}
 use Rattle.wire.specs.WritingLaws.{wrote}
 use Rattle.wire.specs.declared.refusals.Written.{Written}
-use Rattle.wire.specs.declared.refusals.Written.TheVariants as Written
 use Rattle.wire.specs.Refusing.{Zeros}
 use Rattle.wire.specs.Writing.{onto, leaves, room}
 use Rattle.tunnelling.specs.declared.form.Form.{Form}

@@ -19,9 +19,7 @@ use Rattle.ldata.specs.declared.ldata.LDataFields.{LDataFields}
 use Rattle.ldata.specs.declared.ldata.LDataAnswer.{LDataAnswer}
 use Rattle.ldata.specs.declared.ldata.LDataAnswer.TheVariants.{Frame, Refused}
 use Rattle.ldata.specs.declared.destination.GroupAddressAnswer.{GroupAddressAnswer}
-use Rattle.ldata.specs.declared.destination.GroupAddressAnswer.TheVariants as GroupAddressAnswer
 use Rattle.ldata.specs.declared.destination.IndividualAddressAnswer.{IndividualAddressAnswer}
-use Rattle.ldata.specs.declared.destination.IndividualAddressAnswer.TheVariants as IndividualAddressAnswer
 
 -- ---- the layout
 

@@ -31,9 +31,7 @@ use Rattle.ldata.specs.declared.ldata.LDataFields.{LDataFields}
 use Rattle.ldata.specs.declared.ldata.LDataAnswer.{LDataAnswer}
 use Rattle.ldata.specs.declared.ldata.LDataAnswer.TheVariants.{Frame, Refused}
 use Rattle.ldata.specs.declared.destination.GroupAddressAnswer.{GroupAddressAnswer}
-use Rattle.ldata.specs.declared.destination.GroupAddressAnswer.TheVariants as GroupAddressAnswer
 use Rattle.ldata.specs.declared.destination.IndividualAddressAnswer.{IndividualAddressAnswer}
-use Rattle.ldata.specs.declared.destination.IndividualAddressAnswer.TheVariants as IndividualAddressAnswer
 
 -- an offset for each check, in either order
 pub one_each : (C : Count) (n : ℕ) (d : Bool) (l : ℕ) → length (offsets n) ≡ length (checks C n d l)

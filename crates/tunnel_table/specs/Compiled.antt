@@ -9,7 +9,6 @@ use Rattle.tunnelling.specs.declared.form.Form.{Form}
 use Rattle.tunnelling.specs.declared.form.Form.TheVariants.{Crate}
 use Rattle.tunnel_datagram.specs.Hearing.{channel_offset}
 use Rattle.tunnel_datagram.specs.declared.hearing.Heard.{Heard}
-use Rattle.tunnel_datagram.specs.declared.hearing.Heard.TheVariants as Heard
 use Rattle.tunnel.specs.declared.rules.Tunnel.{Tunnel}
 use Rattle.tunnel.specs.declared.rules.Said.{Said}
 use Rattle.tunnel_model.specs.Firsts.{first_of, put_first}

@@ -7,12 +7,10 @@ use Rattle.tunnel_model.specs.Places.{Kind, KindLaws, holds, free}
 use Rattle.tunnel.specs.Rules.{afresh}
 use Rattle.tunnel.specs.declared.rules.Tunnel.{Tunnel}
 use Rattle.tunnel.specs.declared.rules.Left.{Left}
-use Rattle.tunnel.specs.declared.rules.Left.TheVariants as Left
 use Rattle.tunnel_table.specs.declared.places.Hold.{Hold}
 use Rattle.tunnel_table.specs.declared.places.Hold.TheVariants.{Free, Held}
 use Rattle.tunnel_table.specs.declared.places.Place.{Place}
 use Rattle.tunnel_table.specs.declared.places.Wanted.{Wanted}
-use Rattle.tunnel_table.specs.declared.places.Wanted.TheVariants as Wanted
 use Rattle.tunnel_table.specs.declared.places.Found.{Found}
 use Rattle.tunnel_table.specs.declared.places.Found.TheVariants.{At, Nothing}
 

@@ -15,12 +15,10 @@ use Rattle.tunnelling.specs.Request as TunnelingRequest
 use Rattle.tunnelling.specs.declared.form.Form.{Form}
 use Rattle.tunnel_datagram.specs.Hearing.{channel_offset, heard_in}
 use Rattle.tunnel_datagram.specs.declared.hearing.Heard.{Heard}
-use Rattle.tunnel_datagram.specs.declared.hearing.Heard.TheVariants as Heard
 use Rattle.tunnel.specs.Rules.{afresh, waiting, sending_of}
 use Rattle.tunnel.specs.declared.rules.Tunnel.{Tunnel}
 use Rattle.tunnel.specs.declared.rules.Said.TheVariants as Said
 use Rattle.tunnel.specs.declared.rules.Left.{Left}
-use Rattle.tunnel.specs.declared.rules.Left.TheVariants as Left
 use Rattle.tunnel.specs.declared.rules.Stepped.{Stepped}
 use Rattle.tunnel_model.specs.Firsts.{first_of}
 use Rattle.tunnel_model.specs.PlacesLaws.{put_held}

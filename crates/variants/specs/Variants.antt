@@ -5,7 +5,6 @@ use Rattle.wire.specs.declared.refusals.Refusal.{Refusal}
 use Rattle.wire.specs.declared.refusals.Refusal.TheVariants.{BufferTooSmall, InvalidFrame, UnsupportedVersion, UnsupportedServiceType, PayloadTooLarge, InvalidMessageCode, AlreadyOpen, TableFull, NotOpen, AwaitsAck, AwaitsNothing, NotForTunnels, FieldOutOfRange, InvalidAdditionalInfo}
 use Rattle.additional_info.specs.declared.info_type.AdditionalInfoType.{AdditionalInfoType}
 use Rattle.additional_info.specs.declared.info_type.AdditionalInfoType.TheVariants.{PlMediumInfo, RfMediumInfo, BusmonitorErrorFlags, RelativeTimestamp, TimeDelay, ExtendedRelativeTimestamp, BiBatInfo}
-use Rattle.additional_info.specs.declared.info_type.AdditionalInfoType.TheVariants as AdditionalInfoType
 use Rattle.constants.specs.declared.services.ServiceType.{ServiceType}
 use Rattle.constants.specs.declared.services.ServiceType.TheVariants.{ConnectRequest, ConnectResponse, ConnectionstateRequest, ConnectionstateResponse, DisconnectRequest, DisconnectResponse, TunnellingRequest, TunnellingAck}
 use Rattle.constants.specs.declared.message_codes.CEMIMessageCode.{CEMIMessageCode}

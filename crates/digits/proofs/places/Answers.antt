@@ -1,6 +1,6 @@
 -- The invariant: the digits that are counted, by fours, and those that what is left has. Assumes nothing.
-use Rattle.std.proofs.Common.{ℕ, ◌+◌, ◌-◌, ◌/◌, ◌%◌, ◌≤◌, arith, ◌≡◌, ap, ◌∙◌, ⊎_elim, length, rules}
-use Rattle.digits.specs.Digits.{decimal_in, decimal, tens}
+use Rattle.std.proofs.Common.{ℕ, ◌+◌, ◌-◌, ◌/◌, arith, ◌≡◌, ap, ◌∙◌, length}
+use Rattle.digits.specs.Digits.{decimal_in, tens}
 use Rattle.digits.specs.DigitLaws.{places_turn, enough_places, few_most}
 use Rattle.digits.proofs.places.Goals as goal
 use Rattle.digits.proofs.places.Goals.{else-loop-rest-test, then-loop-rest-test+then-count-eq16}
@@ -29,8 +29,8 @@ unfolding tens
 returns c = let o = c.loop-rest in
     let few = c.few_places.ensures in
     elim c.loop-rest-test.branch [
-      else-loop-rest-test w ↦ omega (arith, o.invariant.2, few, enough_places 3 (20 - o.count) o.rest (omega (arith, o.invariant.0)) (omega (arith, w.loop-rest-test.false)))
+      | else-loop-rest-test w ↦ omega (arith, o.invariant.2, few, enough_places 3 (20 - o.count) o.rest (omega (arith, o.invariant.0)) (omega (arith, w.loop-rest-test.false)))
       | then-loop-rest-test+then-count-eq16 w ↦
-        let q : 20 - o.count ≡ 4 = omega (arith, w.if-count-eq16.true) in
-        omega (arith, o.invariant.2, few, ap (λ (k : ℕ). length (decimal_in k o.rest)) q)
+          let q : 20 - o.count ≡ 4 = omega (arith, w.if-count-eq16.true) in
+          omega (arith, o.invariant.2, few, ap (λ (k : ℕ). length (decimal_in k o.rest)) q)
     ]

@@ -1,6 +1,5 @@
-use Rattle.std.proofs.Common.{ℕ, ◌+◌, ◌-◌, ◌/◌, ◌%◌, ◌≤◌, arith, ◌≡◌, ap, ◌∙◌, ⊎_elim, length, rules}
-use Rattle.digits.specs.Digits.{decimal_in, decimal, tens}
-use Rattle.digits.specs.DigitLaws.{places_turn, enough_places, few_most}
+use Rattle.std.proofs.Common.{◌+◌, ◌-◌, ◌%◌, ◌≤◌, ◌≡◌, length}
+use Rattle.digits.specs.Digits.{decimal_in, decimal}
 use Rattle.digits.proofs.places.Given as goal
 
 abbrev pub invariant-loop-rest : goal.invariant-loop-rest

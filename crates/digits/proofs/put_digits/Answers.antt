@@ -1,5 +1,5 @@
 -- The invariant: the digits still to come, before those that stand, make the output. Assumes nothing.
-use Rattle.std.proofs.Common.{ℕ, ◌+◌, ◌-◌, ◌%◌, ◌≤◌, arith, ◌≡◌, refl, sym, ap, ◌∙◌, ◌++◌, length, take, drop, length-set, rules}
+use Rattle.std.proofs.Common.{ℕ, ◌+◌, ◌-◌, ◌%◌, arith, ◌≡◌, sym, ap, ◌∙◌, length-set}
 use Rattle.wire.specs.LayoutLaws.{copied_is}
 use Rattle.digits.specs.Digits.{last_digits}
 use Rattle.digits.specs.DigitLaws.{standing, last_length, digit_turn, digits_stand, none_stored, unfit_stored}

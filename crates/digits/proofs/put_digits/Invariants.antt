@@ -1,7 +1,6 @@
-use Rattle.std.proofs.Common.{ℕ, ◌+◌, ◌-◌, ◌%◌, ◌≤◌, arith, ◌≡◌, refl, sym, ap, ◌∙◌, ◌++◌, length, take, drop, length-set, rules}
-use Rattle.wire.specs.LayoutLaws.{copied_is}
+use Rattle.std.proofs.Common.{◌-◌, ◌≤◌, ◌≡◌, ◌++◌, length, take, drop}
 use Rattle.digits.specs.Digits.{last_digits}
-use Rattle.digits.specs.DigitLaws.{standing, last_length, digit_turn, digits_stand, none_stored, unfit_stored}
+use Rattle.digits.specs.DigitLaws.{standing}
 use Rattle.digits.proofs.put_digits.Given as goal
 
 abbrev pub invariant-loop-i : goal.invariant-loop-i

@@ -1,5 +1,5 @@
 -- After one record the walk goes on with what remains. Assumes nothing.
-use Rattle.std.proofs.Common.{◌≡◌, ◌-◌, suc, length, arith}
+use Rattle.std.proofs.Common.{◌≡◌, ◌-◌, suc, arith}
 use Rattle.additional_info.specs.WalkLaws.{records-most}
 use Rattle.additional_info.specs.AreaSteps.{none-stands, one_stands, rest_part, walk_none, walk_stop, walk_on}
 use Rattle.additional_info.proofs.area.+walk.Goals as goal

@@ -1,5 +1,4 @@
 -- All records are walked past; what remains decides. Assumes nothing.
-use Rattle.std.proofs.Common.{rules}
 use Rattle.additional_info.specs.AreaSteps.{count-refused, count-done}
 use Rattle.additional_info.proofs.area.count.Goals as goal
 

@@ -1,7 +1,6 @@
 -- The invariant: so many records were gone past, to this place. The measure: how many are still asked for. Assumes nothing.
-use Rattle.std.proofs.Common.{◌-◌, ◌≤◌, arith, ◌≡◌, rules}
-use Rattle.additional_info.specs.Area.{WalkPromise}
-use Rattle.additional_info.specs.AreaSteps.{to, walk_none, turn}
+use Rattle.std.proofs.Common.{arith, ◌≡◌}
+use Rattle.additional_info.specs.AreaSteps.{walk_none, turn}
 use Rattle.additional_info.proofs.area.past.Goals as goal
 
 pub loop-records-init : goal.loop-records-init

@@ -1,6 +1,6 @@
-use Rattle.std.proofs.Common.{◌-◌, ◌≤◌, arith, ◌≡◌, rules}
+use Rattle.std.proofs.Common.{◌-◌, ◌≤◌}
 use Rattle.additional_info.specs.Area.{WalkPromise}
-use Rattle.additional_info.specs.AreaSteps.{to, walk_none, turn}
+use Rattle.additional_info.specs.AreaSteps.{to}
 use Rattle.additional_info.proofs.area.past.Given as goal
 
 abbrev pub invariant-loop-records : goal.invariant-loop-records

@@ -1,5 +1,5 @@
 -- Type, length and data are read from the part behind the place. Assumes nothing.
-use Rattle.std.proofs.Common.{arith, rules}
+use Rattle.std.proofs.Common.{arith}
 use Rattle.additional_info.specs.AreaSteps.{placed, reads}
 use Rattle.additional_info.proofs.area.record_at.Goals as goal
 

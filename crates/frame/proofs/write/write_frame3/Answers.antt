@@ -1,5 +1,5 @@
 -- The header is written first, and each part is copied right behind what stands. Assumes nothing.
-use Rattle.std.proofs.Common.{ℕ, ◌+◌, ap, sym, ◌∙◌, [], ◌∷◌, ◌++◌, arith, lt-ltb, le-ltb, ltb-false, ltb, length, rules}
+use Rattle.std.proofs.Common.{ℕ, ◌+◌, ap, sym, ◌∙◌, [], ◌∷◌, ◌++◌, arith, lt-ltb, le-ltb, ltb-false, ltb, length}
 use Rattle.wire.specs.Told.{done}
 use Rattle.frame.specs.WriteLaws.{sum_of, laid}
 use Rattle.frame.proofs.write.write_frame3.Goals as goal

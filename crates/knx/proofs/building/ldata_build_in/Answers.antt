@@ -1,5 +1,5 @@
 -- `ldata_build_in` keeps its contract. Assumes nothing.
-use Rattle.std.proofs.Common.{◌≡◌, rules}
+use Rattle.std.proofs.Common.{◌≡◌}
 use Rattle.ldata.specs.Builder.{BuildInPromise}
 use Rattle.knx.specs.Building.{builder_of}
 use Rattle.knx.specs.BuildingLaws.{as_told, tpci_is}

@@ -1,5 +1,4 @@
 -- `knx_table_send` keeps its contract. Assumes nothing.
-use Rattle.std.proofs.Common.{rules}
 use Rattle.tunnel_model.specs.Calls.{Send}
 use Rattle.knx.specs.CalledLaws.{small_call, packed_call}
 use Rattle.knx.proofs.called.knx_table_send.Goals as goal

@@ -1,5 +1,5 @@
 -- `knx_table_timeout` keeps its contract. Assumes nothing.
-use Rattle.std.proofs.Common.{[], rules}
+use Rattle.std.proofs.Common.{[]}
 use Rattle.tunnel_model.specs.Calls.{Timeout}
 use Rattle.knx.specs.CalledLaws.{small_call, packed_call}
 use Rattle.knx.proofs.called.knx_table_timeout.Goals as goal

@@ -1,7 +1,6 @@
 -- After i turns the first i places are packed; what is left of the eight falls. Assumes nothing.
-use Rattle.std.proofs.Common.{ℕ, ◌≤◌, ◌-◌, arith, ◌≡◌, refl, ap, sym, ◌∙◌, [], ◌∷◌, length, take, rules, lt-ltb, le-ltb}
+use Rattle.std.proofs.Common.{ℕ, arith, ◌≡◌, ap, sym, ◌∙◌, [], ◌∷◌, length, rules, lt-ltb, le-ltb}
 use Rattle.wire.specs.Told.{done}
-use Rattle.wire.specs.Writing.{onto}
 use Rattle.tunnel_image.specs.Image.{packed}
 use Rattle.tunnel_image.specs.ImageLaws.{forty, packed_turn, packed_all}
 use Rattle.tunnel_image.proofs.image.pack.Goals as goal

@@ -1,8 +1,6 @@
-use Rattle.std.proofs.Common.{ℕ, ◌≤◌, ◌-◌, arith, ◌≡◌, refl, ap, sym, ◌∙◌, [], ◌∷◌, length, take, rules, lt-ltb, le-ltb}
-use Rattle.wire.specs.Told.{done}
+use Rattle.std.proofs.Common.{◌≤◌, ◌-◌, ◌≡◌, length, take}
 use Rattle.wire.specs.Writing.{onto}
 use Rattle.tunnel_image.specs.Image.{packed}
-use Rattle.tunnel_image.specs.ImageLaws.{forty, packed_turn, packed_all}
 use Rattle.tunnel_image.proofs.image.pack.Given as goal
 
 abbrev pub invariant-loop-i : goal.invariant-loop-i

@@ -1,6 +1,6 @@
 -- The invariant: what stands from i on decides; the measure: the places that are left. Assumes nothing.
-use Rattle.std.proofs.Common.{◌≤◌, ◌-◌, arith, ◌≡◌, refl, sym, ◌∙◌, length, drop, rules}
-use Rattle.tunnel_table.specs.Places.{seek, passing}
+use Rattle.std.proofs.Common.{arith, sym, ◌∙◌, rules}
+use Rattle.tunnel_table.specs.Places.{passing}
 use Rattle.tunnel_table.specs.SeekLaws.{seek_turn, seek_hit, seek_end}
 use Rattle.tunnel_table.proofs.places.find.Goals as goal
 

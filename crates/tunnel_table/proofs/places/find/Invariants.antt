@@ -1,6 +1,5 @@
-use Rattle.std.proofs.Common.{◌≤◌, ◌-◌, arith, ◌≡◌, refl, sym, ◌∙◌, length, drop, rules}
+use Rattle.std.proofs.Common.{◌≤◌, ◌-◌, ◌≡◌, length, drop}
 use Rattle.tunnel_table.specs.Places.{seek, passing}
-use Rattle.tunnel_table.specs.SeekLaws.{seek_turn, seek_hit, seek_end}
 use Rattle.tunnel_table.proofs.places.find.Given as goal
 
 abbrev pub invariant-loop-i : goal.invariant-loop-i

@@ -1,6 +1,6 @@
 -- After each turn the first i bytes are pasted, none past the end; what is left falls. Assumes nothing.
-use Rattle.std.proofs.Common.{◌+◌, ◌≤◌, ◌-◌, ◌≡◌, refl, arith, length}
-use Rattle.std.proofs.Math.Seq.{paste, paste-zero}
+use Rattle.std.proofs.Common.{◌+◌, ◌-◌, refl, arith, length}
+use Rattle.std.proofs.Math.Seq.{paste-zero}
 use Rattle.wire.specs.PasteLaws.{paste_next}
 use Rattle.wire.proofs.copying.copy_all.Goals as goal
 

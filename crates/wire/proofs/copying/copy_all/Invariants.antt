@@ -1,6 +1,5 @@
-use Rattle.std.proofs.Common.{◌+◌, ◌≤◌, ◌-◌, ◌≡◌, refl, arith, length}
-use Rattle.std.proofs.Math.Seq.{paste, paste-zero}
-use Rattle.wire.specs.PasteLaws.{paste_next}
+use Rattle.std.proofs.Common.{◌≤◌, ◌-◌, ◌≡◌, length}
+use Rattle.std.proofs.Math.Seq.{paste}
 use Rattle.wire.proofs.copying.copy_all.Given as goal
 
 abbrev pub invariant-loop-i : goal.invariant-loop-i

@@ -1,5 +1,5 @@
 -- What the array holds in between is what is pasted. Assumes nothing.
-use Rattle.std.proofs.Common.{ℕ, ◌≤◌, List, arith, length, length-drop, drop, replicate, rules}
+use Rattle.std.proofs.Common.{ℕ, ◌≤◌, List, arith, length, length-drop, drop, replicate}
 use Rattle.wire.specs.PasteLaws.{paste_through}
 use Rattle.wire.proofs.copying.copy_block.Goals as goal
 

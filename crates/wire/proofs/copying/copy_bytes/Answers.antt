@@ -1,5 +1,5 @@
 -- After i turns the first i bytes are pasted; what is left of the n falls. Assumes nothing.
-use Rattle.std.proofs.Common.{ℕ, ◌+◌, ◌≤◌, ◌<◌, ◌-◌, ◌≡◌, refl, ap, sym, ◌∙◌, List, arith, add-one, length, length-set, length-drop, set, drop, get_or-drop}
+use Rattle.std.proofs.Common.{ℕ, ◌+◌, ◌<◌, ◌≡◌, refl, ap, sym, ◌∙◌, List, arith, add-one, length, length-set, length-drop, set, drop, get_or-drop}
 use Rattle.std.proofs.Math.Seq.{paste, paste-zero, paste-suc}
 use Rattle.wire.proofs.copying.copy_bytes.Goals as goal
 

@@ -1,5 +1,5 @@
-use Rattle.std.proofs.Common.{ℕ, ◌+◌, ◌≤◌, ◌<◌, ◌-◌, ◌≡◌, refl, ap, sym, ◌∙◌, List, arith, add-one, length, length-set, length-drop, set, drop, get_or-drop}
-use Rattle.std.proofs.Math.Seq.{paste, paste-zero, paste-suc}
+use Rattle.std.proofs.Common.{◌≤◌, ◌-◌, ◌≡◌, length, drop}
+use Rattle.std.proofs.Math.Seq.{paste}
 use Rattle.wire.proofs.copying.copy_bytes.Given as goal
 
 abbrev pub invariant-loop-i : goal.invariant-loop-i

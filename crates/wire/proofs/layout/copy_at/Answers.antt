@@ -1,5 +1,5 @@
 -- What fits is pasted whole; what does not fit is seen by the same sum. Assumes nothing.
-use Rattle.std.proofs.Common.{ℕ, ◌+◌, List, ◌++◌, ap, ◌∙◌, arith, le-leb, length, take, drop, rules}
+use Rattle.std.proofs.Common.{ℕ, ◌+◌, List, ◌++◌, ap, ◌∙◌, arith, le-leb, length, take, drop}
 use borrow.Author.Tests.{lt-leb}
 use Rattle.std.proofs.Math.Seq.{take-length}
 use Rattle.wire.proofs.layout.copy_at.Goals as goal

@@ -1,5 +1,5 @@
 -- `write` keeps its contract. Assumes nothing.
-use Rattle.std.proofs.Common.{◌∙◌, lt-ltb, le-ltb, rules}
+use Rattle.std.proofs.Common.{◌∙◌, lt-ltb, le-ltb}
 use Rattle.wire.specs.LayoutLaws.{paste_front}
 use Rattle.wire.proofs.writing.write.Goals as goal
 

@@ -1,5 +1,5 @@
 -- Each piece is copied right behind what stands. Assumes nothing.
-use Rattle.std.proofs.Common.{ℕ, arith, ap, sym, [], ◌∷◌, ◌++◌, length, lt-ltb, le-ltb, rules}
+use Rattle.std.proofs.Common.{ℕ, arith, ap, sym, [], ◌∷◌, ◌++◌, length, lt-ltb, le-ltb}
 use Rattle.wire.specs.Told.{done}
 use Rattle.wire.specs.LayoutLaws.{length_three, copied_three}
 use Rattle.wire.proofs.writing.write3.Goals as goal

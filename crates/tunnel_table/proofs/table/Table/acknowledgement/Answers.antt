@@ -1,9 +1,8 @@
 -- `Table::acknowledgement` keeps its contract. Assumes nothing.
-use Rattle.std.proofs.Common.{ap, sym, subst, ◌∙◌, arith, rules}
+use Rattle.std.proofs.Common.{ap, sym, ◌∙◌, arith}
 use Rattle.tunnel.specs.declared.rules.Stepped.{Stepped}
 use Rattle.tunnel_datagram.specs.Hearing.{channel_offset}
 use Rattle.tunnel_model.specs.Lone.{stepped}
-use Rattle.tunnel_table.specs.Places.{Below}
 use Rattle.tunnel_table.specs.Table.{called_as, ack_rule}
 use Rattle.tunnel_table.specs.TableLaws.{at_none, at-step}
 use Rattle.tunnel_table.specs.declared.table.Called.{Called}

@@ -1,9 +1,9 @@
 -- `Table::close` keeps its contract. Assumes nothing.
-use Rattle.std.proofs.Common.{refl, ap, sym, subst, ◌∙◌, [], get_or, rules}
+use Rattle.std.proofs.Common.{refl, ap, sym, ◌∙◌, [], get_or}
 use Rattle.tunnel.specs.declared.rules.Said.TheVariants.{Nothing}
 use Rattle.tunnel_model.specs.Lone.{lone}
 use Rattle.tunnel_model.specs.Calls.{Close}
-use Rattle.tunnel_table.specs.Places.{Below, tunnel_in}
+use Rattle.tunnel_table.specs.Places.{tunnel_in}
 use Rattle.tunnel_table.specs.Table.{called_as, saying}
 use Rattle.tunnel_table.specs.TableLaws.{step-on, at_none, at_close}
 use Rattle.tunnel_table.specs.declared.places.Hold.TheVariants.{Free}

@@ -1,5 +1,5 @@
 -- A datagram is what is heard of it. Assumes nothing.
-use Rattle.std.proofs.Common.{sym, ◌∙◌, rules}
+use Rattle.std.proofs.Common.{sym, ◌∙◌}
 use Rattle.tunnel_datagram.specs.HearingLaws.{heard_in_is}
 use Rattle.tunnel_table.specs.TableLaws.{step-heard}
 use Rattle.tunnel_table.proofs.table.Table.datagram_in.Goals as goal

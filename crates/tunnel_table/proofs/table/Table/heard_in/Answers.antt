@@ -1,5 +1,5 @@
 -- What was heard says whose rule it is. Assumes nothing.
-use Rattle.std.proofs.Common.{ap, sym, ◌∙◌, rules}
+use Rattle.std.proofs.Common.{ap, sym, ◌∙◌}
 use Rattle.tunnel_datagram.specs.declared.hearing.Heard.{Heard}
 use Rattle.tunnel_table.specs.Table.{called_as, heard_in_on}
 use Rattle.tunnel_table.specs.declared.table.Called.{Called}

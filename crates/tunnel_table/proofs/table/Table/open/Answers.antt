@@ -1,8 +1,8 @@
 -- `Table::open` keeps its contract. Assumes nothing.
-use Rattle.std.proofs.Common.{refl, ap, sym, subst, ◌∙◌, [], get_or, rules}
+use Rattle.std.proofs.Common.{refl, ap, sym, ◌∙◌, [], get_or}
 use Rattle.tunnel.specs.declared.rules.Tunnel.{Tunnel}
 use Rattle.tunnel.specs.declared.rules.Said.TheVariants.{Nothing}
-use Rattle.tunnel_table.specs.Places.{Below, tunnel_in}
+use Rattle.tunnel_table.specs.Places.{tunnel_in}
 use Rattle.tunnel_table.specs.Table.{called_as, saying, put_at}
 use Rattle.tunnel_table.specs.TableLaws.{open_open, open_full, open_at}
 use Rattle.tunnel_table.specs.declared.places.Hold.TheVariants.{Free, Held}

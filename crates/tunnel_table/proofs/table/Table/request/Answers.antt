@@ -1,5 +1,5 @@
 -- One law of `TableLaws` for each way out. Assumes nothing.
-use Rattle.std.proofs.Common.{arith, refl, ap, sym, subst, ◌∙◌, length, rules}
+use Rattle.std.proofs.Common.{arith, refl, ap, sym, ◌∙◌, length}
 use Rattle.wire.specs.Told.{verdict}
 use Rattle.tunnelling.specs.AckForm.{form_by, build_checks}
 use Rattle.tunnel.specs.declared.rules.Tunnel.{Tunnel}
@@ -7,7 +7,6 @@ use Rattle.tunnel.specs.declared.rules.Said.TheVariants.{Deliver, Duplicate, Out
 use Rattle.tunnel.specs.declared.rules.Arrival.{Arrival}
 use Rattle.tunnel_datagram.specs.Hearing.{channel_offset}
 use Rattle.tunnel_model.specs.Lone.{ack, acknowledging, arrived}
-use Rattle.tunnel_table.specs.Places.{Below}
 use Rattle.tunnel_table.specs.Table.{called_as, request_rule, reaction_told, saying}
 use Rattle.tunnel_table.specs.TableLaws.{at_none, at_kept, at_react}
 use Rattle.tunnel_table.specs.declared.table.Called.{Called}

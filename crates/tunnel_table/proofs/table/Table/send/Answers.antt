@@ -1,12 +1,10 @@
 -- One law of `TableLaws` for each way out. Assumes nothing.
-use Rattle.std.proofs.Common.{ℕ, arith, refl, ap, sym, subst, ◌∙◌, List, [], ◌∷◌, length, rules}
+use Rattle.std.proofs.Common.{ℕ, arith, refl, ap, sym, subst, ◌∙◌, List, [], ◌∷◌, length}
 use mathlib.Core.Option.{some}
 use Rattle.wire.specs.Refusals.{number_of}
 use Rattle.wire.specs.Told.{Told, done}
-use Rattle.wire.specs.Writing.{Writes}
 use Rattle.wire.specs.WritingLaws.{wrote, was_written, was_unwritten}
 use Rattle.wire.specs.declared.refusals.Refusal.TheVariants.{AwaitsAck}
-use Rattle.wire.specs.declared.refusals.Written.{Written}
 use Rattle.tunnelling.specs.Request.{build_checks, BuildPromise}
 use Rattle.tunnelling.specs.declared.connection.ConnectionHeader.{ConnectionHeader}
 use Rattle.tunnelling.specs.declared.request.TunnelingRequest.{TunnelingRequest}
@@ -16,7 +14,6 @@ use Rattle.tunnel.specs.declared.rules.Said.TheVariants.{Nothing}
 use Rattle.tunnel.specs.Numbers.{said_of}
 use Rattle.tunnel_model.specs.Calls.{Send, refuses}
 use Rattle.tunnel_model.specs.Lone.{request, lone}
-use Rattle.tunnel_table.specs.Places.{Below}
 use Rattle.tunnel_table.specs.Table.{called_as, saying}
 use Rattle.tunnel_table.specs.TableLaws.{step-on, at_none, at-put, at_kept, written_as, awaits, sends, sends_not}
 use Rattle.tunnel_table.specs.declared.table.Called.{Called}

@@ -1,9 +1,8 @@
 -- `Table::timeout` keeps its contract. Assumes nothing.
-use Rattle.std.proofs.Common.{refl, ap, sym, subst, ◌∙◌, [], arith, rules}
+use Rattle.std.proofs.Common.{refl, ap, sym, ◌∙◌, [], arith}
 use Rattle.tunnel.specs.declared.rules.Stepped.{Stepped}
 use Rattle.tunnel_model.specs.Calls.{Timeout}
 use Rattle.tunnel_model.specs.Lone.{lone, stepped}
-use Rattle.tunnel_table.specs.Places.{Below}
 use Rattle.tunnel_table.specs.Table.{called_as}
 use Rattle.tunnel_table.specs.TableLaws.{step-on, at_none, at-step}
 use Rattle.tunnel_table.specs.declared.table.Called.{Called}
