@@ -1,4 +1,4 @@
--- The program's body takes nothing, is lent nothing and answers nothing; what is read and written no contract can say. Assumes nothing.
+-- The program's body is lent the handle of the system alone and answers nothing; what is read and written no contract can say. Assumes nothing.
 use Rattle.std.specs.Prelude.{◌≡◌}
 
 abbrev pub RunPromise : Unit {0} → Type 0

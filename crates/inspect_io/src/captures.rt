@@ -3,59 +3,68 @@ ghost use Rattle.inspect_io.specs.Reading.{StartPromise};
 ghost use Rattle.inspect_io.specs.Turning.{LastPromise};
 
 use crate::reading::{Turned, Went};
-use crate::{reading, turning};
+use crate::{printing, reading, turning};
 use inspection::Progress;
-use libc::{STDERR_FILENO, STDOUT_FILENO};
+use std::io::Read;
 use wire::Written;
 
 // Prints what there is to say of a capture; false where nothing more can be written.
-pub(crate) fn capture(fd: i32, name: &[u8], input: &mut [u8], out: &mut [u8]) -> bool {
-    let first = reading::read_start(fd, input);
+pub(crate) fn capture<F: Read>(
+    rt: &HostRuntime,
+    file: &mut F,
+    name: &[u8],
+    input: &mut [u8],
+    out: &mut [u8],
+) -> bool {
+    let first = reading::read_start(rt, file, name, input);
     let went = first.went;
     if let Went::Unread = went {
-        os::fail(name);
         return true;
     }
     let progress = first.progress;
-    inspect(fd, name, input, out, progress)
+    inspect(rt, file, name, input, out, progress)
 }
 
 // The start's line and, where it is one, those of the records.
-fn inspect(fd: i32, name: &[u8], input: &mut [u8], out: &mut [u8], progress: Progress) -> bool
+fn inspect<F: Read>(
+    rt: &HostRuntime,
+    file: &mut F,
+    name: &[u8],
+    input: &mut [u8],
+    out: &mut [u8],
+    progress: Progress,
+) -> bool
     requires { StartPromise input.old progress }
 {
     let have = progress.have;
     let kip = kip::starts(wire::part(input, 0, have));
     let used = size(inspection::heading(kip, out));
-    if !printed(wire::part(out, 0, used)) {
+    if !printing::printed(rt, wire::part(out, 0, used)) {
         return false;
     }
     if kip {
-        let last = turning::turns(fd, input, out, progress);
-        return finish(name, out, last);
+        let last = turning::turns(rt, file, name, input, out, progress);
+        return finish(rt, out, last);
     }
     true
 }
 
-// Where the capture ended, its last lines; where it could not be told to its end, the lines up to there, and why.
-fn finish(name: &[u8], out: &mut [u8], last: Turned) -> bool {
+// Where the capture ended, its last lines; where it could not be told to its end, the lines up to there. Why a read or a write failed is told already.
+fn finish(rt: &HostRuntime, out: &mut [u8], last: Turned) -> bool {
     let progress = last.progress;
     let spot = progress.spot;
     let went = last.went;
     match went {
         Went::Ended => {
-            if !printed(wire::part(out, 0, spot.used)) {
+            if !printing::printed(rt, wire::part(out, 0, spot.used)) {
                 return false;
             }
             let used = size(last_lines(progress, out));
-            printed(wire::part(out, 0, used))
+            printing::printed(rt, wire::part(out, 0, used))
         }
-        Went::Unread => {
-            os::fail(name);
-            printed(wire::part(out, 0, spot.used))
-        }
-        Went::Unwritten => unwritten(),
-        _ => too_long(wire::part(out, 0, spot.used)),
+        Went::Unread => printing::printed(rt, wire::part(out, 0, spot.used)),
+        Went::Unwritten => false,
+        _ => too_long(rt, wire::part(out, 0, spot.used)),
     }
 }
 
@@ -67,9 +76,9 @@ fn last_lines(progress: Progress, out: &mut [u8]) -> Written
     inspection::ending(spot.n, spot.at < progress.have, out)
 }
 
-fn too_long(lines: &[u8]) -> bool {
-    io::write_all(STDERR_FILENO, b"more records than 64 bits count\n");
-    printed(lines)
+fn too_long(rt: &HostRuntime, lines: &[u8]) -> bool {
+    printing::told(rt, b"more records than 64 bits count\n");
+    printing::printed(rt, lines)
 }
 
 // How much of the output a line takes: nothing where it has no room.
@@ -78,17 +87,4 @@ fn size(written: Written) -> usize {
         Written::Bytes(k) => k,
         Written::Refused(_) => 0,
     }
-}
-
-// Writes to standard output, or says why it could not.
-pub(crate) fn printed(bytes: &[u8]) -> bool {
-    if io::write_all(STDOUT_FILENO, bytes) {
-        return true;
-    }
-    unwritten()
-}
-
-fn unwritten() -> bool {
-    os::fail(b"standard output");
-    false
 }

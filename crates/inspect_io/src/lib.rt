@@ -2,6 +2,7 @@
 #![tactic(auto)]
 
 mod captures;
+mod printing;
 mod reading;
 mod running;
 mod turning;

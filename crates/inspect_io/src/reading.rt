@@ -2,7 +2,9 @@
 ghost use Rattle.std.specs.Prelude.{◌≤◌, length};
 ghost use Rattle.inspect_io.specs.Reading.{StopsPromise, ReadMore, ReadStartPromise};
 
+use crate::printing;
 use inspection::Progress;
+use std::io::Read;
 
 // The capture goes on; it ended; a read failed, which is not its end; a write failed; or it has more records than are counted.
 #[derive(Clone, Copy)]
@@ -33,12 +35,17 @@ pub(crate) fn stops(went: Went) -> bool
 }
 
 // Reads until the start is there, or nothing more comes.
-pub(crate) fn read_start(fd: i32, input: &mut [u8]) -> Turned
+pub(crate) fn read_start<F: Read>(
+    rt: &HostRuntime,
+    file: &mut F,
+    name: &[u8],
+    input: &mut [u8],
+) -> Turned
     ensures { ReadStartPromise input.new result }
 {
     let mut progress = inspection::begin();
     let turned = loop {
-        let turned = read_more(fd, input, progress);
+        let turned = read_more(rt, file, name, input, progress);
         let went = turned.went;
         if stops(went) {
             break turned;
@@ -52,21 +59,29 @@ pub(crate) fn read_start(fd: i32, input: &mut [u8]) -> Turned
     turned
 }
 
-// Reads once behind what is there. A read that brings nothing is the capture's end.
-pub(crate) fn read_more(fd: i32, input: &mut [u8], progress: Progress) -> Turned
+// Reads once behind what is there. A read that brings nothing is the capture's end; why one failed is told at once.
+pub(crate) fn read_more<F: Read>(
+    rt: &HostRuntime,
+    file: &mut F,
+    name: &[u8],
+    input: &mut [u8],
+    progress: Progress,
+) -> Turned
     requires { progress.have ≤ length input.old }
     ensures { ReadMore input.old progress input.new result }
 {
     let have = progress.have;
     let room = &mut input[have..];
-    let got = libc::read(fd, room);
-    if got < 0 {
-        return Turned {
-            progress,
-            went: Went::Unread,
-        };
-    }
-    let count = io::count(got, room);
+    let count = match file.read(room) {
+        Ok(count) => count,
+        Err(error) => {
+            printing::fail(rt, name, error);
+            return Turned {
+                progress,
+                went: Went::Unread,
+            };
+        }
+    };
     if count == 0 {
         return Turned {
             progress,

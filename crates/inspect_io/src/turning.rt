@@ -2,20 +2,27 @@
 ghost use Rattle.inspection.specs.Reaching.{Reached};
 ghost use Rattle.inspect_io.specs.Turning.{WritePromise, TurnPromise};
 
-use crate::reading;
 use crate::reading::{Turned, Went};
+use crate::{printing, reading};
 use inspection::{Progress, Stop};
-use libc::STDOUT_FILENO;
+use std::io::Read;
 
 // Every turn reads or writes a byte at least, so no capture is long enough to meet this count.
-pub(crate) fn turns(fd: i32, input: &mut [u8], out: &mut [u8], progress: Progress) -> Turned
+pub(crate) fn turns<F: Read>(
+    rt: &HostRuntime,
+    file: &mut F,
+    name: &[u8],
+    input: &mut [u8],
+    out: &mut [u8],
+    progress: Progress,
+) -> Turned
     requires { Reached input.old out.old progress }
     ensures { TurnPromise input.new out.new result }
 {
     let mut at = progress;
     let mut count = u64::MAX;
     while count > 0 {
-        let turned = turn(fd, input, out, at);
+        let turned = turn(rt, file, name, input, out, at);
         let went = turned.went;
         if reading::stops(went) {
             return turned;
@@ -31,7 +38,14 @@ pub(crate) fn turns(fd: i32, input: &mut [u8], out: &mut [u8], progress: Progres
 }
 
 // Scans, and writes what is gathered where a line has no room; else moves what is left to the front and reads on.
-fn turn(fd: i32, input: &mut [u8], out: &mut [u8], progress: Progress) -> Turned
+fn turn<F: Read>(
+    rt: &HostRuntime,
+    file: &mut F,
+    name: &[u8],
+    input: &mut [u8],
+    out: &mut [u8],
+    progress: Progress,
+) -> Turned
     requires { Reached input.old out.old progress }
     ensures { TurnPromise input.new out.new result }
 {
@@ -42,23 +56,23 @@ fn turn(fd: i32, input: &mut [u8], out: &mut [u8], progress: Progress) -> Turned
     let stop = scanned.stop;
     let handed = Progress { spot, have };
     match stop {
-        Stop::Full => write_out(out, handed),
+        Stop::Full => write_out(rt, out, handed),
         Stop::Last => Turned {
             progress: handed,
             went: Went::TooLong,
         },
         Stop::Short => {
             let front = inspection::to_front(input, handed);
-            reading::read_more(fd, input, front)
+            reading::read_more(rt, file, name, input, front)
         }
     }
 }
 
-fn write_out(out: &[u8], progress: Progress) -> Turned
+fn write_out(rt: &HostRuntime, out: &[u8], progress: Progress) -> Turned
     ensures { WritePromise progress result }
 {
     let spot = progress.spot;
-    if io::write_all(STDOUT_FILENO, wire::part(out, 0, spot.used)) {
+    if printing::printed(rt, wire::part(out, 0, spot.used)) {
         let emptied = inspection::written_out(progress);
         return Turned {
             progress: emptied,
