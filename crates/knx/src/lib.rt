@@ -8,9 +8,25 @@ mod channel;
 mod info;
 mod reading;
 
-pub use building::{KnxEndpoint, KnxWritten};
-pub use called::KnxCalled;
-pub use cemi_ldata::KnxLData;
-pub use channel::{KnxDisconnectRequest, KnxStatus};
-pub use info::{KnxAdditionalInfo, KnxCount, KnxPart};
-pub use reading::{KnxConnectResponse, KnxFrame, KnxHpai};
+pub use building::{
+    KnxEndpoint, KnxWritten, knx_connect_request, knx_connectionstate_request,
+    knx_disconnect_request, knx_disconnect_response_build, knx_ldata_build,
+    knx_ldata_build_standard, knx_tunneling_ack, knx_tunneling_ack_standard, knx_tunneling_request,
+};
+pub use called::{
+    KnxCalled, knx_table_close, knx_table_datagram, knx_table_datagram_standard, knx_table_empty,
+    knx_table_open, knx_table_send, knx_table_timeout,
+};
+pub use cemi_ldata::{KnxLData, knx_cemi_ldata, knx_cemi_ldata_standard};
+pub use channel::{
+    KnxDisconnectRequest, KnxStatus, knx_connectionstate_response, knx_disconnect_request_parse,
+    knx_disconnect_response,
+};
+pub use info::{
+    KnxAdditionalInfo, KnxCount, KnxPart, knx_additional_info, knx_additional_info_append,
+    knx_additional_info_count, knx_additional_info_nth, knx_cemi_additional_info, knx_cemi_build,
+};
+pub use reading::{
+    KnxConnectResponse, KnxFrame, KnxHpai, knx_connect_response, knx_connect_response_standard,
+    knx_frame_parse, knx_hpai_parse, knx_own_address,
+};

@@ -1,0 +1,9 @@
+// The C border's exports: a static library over `knx`, with the names that include/knx.h declares. Each export calls the function of its name and promises the same.
+#![tactic(auto)]
+
+mod building;
+mod called;
+mod cemi_ldata;
+mod channel;
+mod info;
+mod reading;
