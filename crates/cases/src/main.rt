@@ -95,7 +95,7 @@ fn areas(rt: &impl Print, zeros: &[u8]) {
     count(rt, "area of 512 KiB and a lone type byte, records", zeros);
 }
 
-// Whether there are arguments behind the program's name.
+// Whether there are arguments behind the program's name. They are not read, so no room is lent for them.
 fn has_arguments(rt: &impl Env) -> bool {
     !matches!(rt.arg(1, &mut []), Err(FillError::NotPresent))
 }

@@ -63,7 +63,7 @@ fn run<R: Read, W: Write>(
     }
 }
 
-// Whether there are arguments behind the program's name.
+// Whether there are arguments behind the program's name. They are not read, so no room is lent for them.
 fn has_arguments(rt: &impl Env) -> bool {
     !matches!(rt.arg(1, &mut []), Err(FillError::NotPresent))
 }
