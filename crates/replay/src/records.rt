@@ -2,6 +2,7 @@
 ghost use Rattle.replay.specs.Records.{Number24Promise, FillPromise, EndedPromise, NextPromise};
 
 use crate::lines;
+use std::io::Read;
 
 // Whether there was a record, its call, how many argument bytes it has and how many it lends.
 #[derive(Clone, Copy)]
@@ -12,12 +13,12 @@ pub struct Record {
     pub m: usize,
 }
 
-// Reads the next record's arguments, and prepares the buffer that is lent. A record that asks for more than there is ends the run, and lines are missing.
-pub fn next(args: &mut [u8], buf: &mut [u8]) -> Record
+// Reads the next record's arguments, and prepares the buffer that is lent. A record that asks for more than there is ends the run, and lines are missing; so does a read that fails.
+pub fn next<R: Read>(input: &mut R, args: &mut [u8], buf: &mut [u8]) -> Record
     ensures { NextPromise result args.new buf.old buf.new }
 {
     let mut head = [0u8; 7];
-    if io::read_full(0, &mut head) < 7 {
+    if input.read_exact(&mut head).is_err() {
         return none();
     }
     let n = number24(wire::part(&head, 1, 4));
@@ -28,7 +29,7 @@ pub fn next(args: &mut [u8], buf: &mut [u8]) -> Record
     if buf.len() < m {
         return none();
     }
-    if io::read_full(0, &mut args[..n]) < n {
+    if input.read_exact(&mut args[..n]).is_err() {
         return none();
     }
     fill(&mut buf[..m]);
