@@ -1,6 +1,6 @@
 -- Demand 1: a number other than 0 is one of 1 to 14, comes with zeros and an empty view, and changes no lent byte. One theorem for each public function that can refuse, under its name, over the promise that its contract names; at the end the functions that refuse nothing. That nothing faults, wraps or hangs is the gate's verdict on functions without a `requires`.
 use Rattle.std.specs.Prelude.{ℕ, ◌+◌, ◌≡◌, refl, List, [], ◌∷◌, ◌++◌, length, Bool}
-use Rattle.std.proofs.Common.{ap, ◌∙◌}
+use Rattle.std.proofs.Common.{ap, sym, subst, ◌∙◌}
 use Rattle.wire.specs.Told.{done, refused, viewed, verdict, answer}
 use Rattle.wire.specs.Layout.{get}
 use Rattle.wire.specs.Writing.{WritePromise, Write3Promise, room}
@@ -598,11 +598,11 @@ knx_cemi_info s r = judged-refusing (Cemi.checks s ++ Cemi.info_check s ∷ []) 
 
 -- knx::knx_additional_info
 pub knx_info : (s : List ℕ) (r : KnxAdditionalInfo) → KnxInfo.FirstPromise s r → Refusing (KnxInfo.told r)
-knx_info s r p = rw p (first-refusing s)
+knx_info s r p = subst Refusing (sym p) (first-refusing s)
 
 -- knx::knx_additional_info_nth
 pub knx_info_nth : (s : List ℕ) (n : ℕ) (r : KnxAdditionalInfo) → KnxInfo.NthPromise s n r → Refusing (KnxInfo.told r)
-knx_info_nth s n r p = rw p (nth_refusing s n)
+knx_info_nth s n r p = subst Refusing (sym p) (nth_refusing s n)
 
 -- knx::knx_additional_info_count
 pub knx_info_count : (s : List ℕ) (r : KnxCount) → KnxInfo.CountPromise s r → Refusing (KnxInfo.told_count r)

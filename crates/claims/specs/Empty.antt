@@ -128,7 +128,7 @@ zeros = replicate 10 0
 -- a builder that writes nothing, whatever it tells
 pub writes_nothing : (tells : ServiceType → List ℕ → List ℕ → Told) → Builds tells (λ s body b. b) → ⊥
 writes_nothing tells f =
-    let x : ◌≡◌ {A = ℕ} 2 0 = ap (λ (t : Told). t.number) (f TunnellingRequest [] zeros (omega arith) (omega arith)).1.Fields-back in
+    let x : ◌≡◌ {A = ℕ} 2 0 = ap (λ (t : Told). t.number) (f TunnellingRequest [] zeros (omega arith) (omega arith)).1.fields_back in
     omega arith
 
 -- ten zeros are a data packet with L = 0, which neither count allows
@@ -138,7 +138,7 @@ zeros-refused Standard = refl
 
 pub ldata_writes_nothing : (c : Counting) (tells : LDataBuilder → List ℕ → List ℕ → Told) → LDataBuilds c tells (λ b d buf. buf) → ⊥
 ldata_writes_nothing c tells f =
-    let x : ◌≡◌ {A = ℕ} 2 0 = sym (zeros-refused c) ∙ ap (λ (t : Told). t.number) (f (writing 0x94) [] zeros (writing_proper c 0x94 10 (omega arith))).1.Fields-back in
+    let x : ◌≡◌ {A = ℕ} 2 0 = sym (zeros-refused c) ∙ ap (λ (t : Told). t.number) (f (writing 0x94) [] zeros (writing_proper c 0x94 10 (omega arith))).1.fields_back in
     omega arith
 
 -- a writer of additional information that writes nothing: of ten zeros the first two are a record of type 0, not 1
