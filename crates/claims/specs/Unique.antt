@@ -1087,7 +1087,7 @@ knx_table_datagram bytes out image = CalledLaws.call_one image (Datagram bytes o
 pub knx_table_datagram_standard : (bytes out : List ℕ) → OneImage (λ image. Called.DatagramStandardPromise image bytes out)
 knx_table_datagram_standard bytes out image = CalledLaws.call_one image (DatagramIn Form.Standard bytes out)
 
--- ---- replay: what the programs that replay recorded calls share; of a record that was read, which no contract can say, the buffer that is lent to its call
+-- ---- replay: what the programs that replay recorded calls share; of a record that was read the buffer that is lent to its call
 
 -- replay::refused
 pub replay_refused : One₂ Telling.RefusedPromise

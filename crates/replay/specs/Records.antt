@@ -1,4 +1,4 @@
--- A record: "call number (1 byte), n (3 bytes), m (3 bytes), n argument bytes", and the buffer that is lent to its call. What was read no contract can say. Assumes nothing.
+-- A record: "call number (1 byte), n (3 bytes), m (3 bytes), n argument bytes", and the buffer that is lent to its call. Which record was read is not said here. Assumes nothing.
 use Rattle.std.specs.Prelude.{ℕ, zero, suc, ◌+◌, ◌*◌, ◌≡◌, false, List, [], ◌∷◌, ◌++◌, length, get_or, drop}
 use Rattle.std.specs.Counts.{IsPrefixLen}
 use Rattle.wire.specs.Layout.{word_at}

@@ -1,4 +1,4 @@
-// The records of calls on standard input.
+// The records of calls, from a reader that is lent: standard input in the programs that replay.
 ghost use Rattle.replay.specs.Records.{Number24Promise, FillPromise, EndedPromise, NextPromise};
 
 use crate::lines;

@@ -1,3 +1,4 @@
+-- The invariant: the digits that are counted, by fours, and those that what is left has. Assumes nothing.
 use Rattle.std.proofs.Common.{◌+◌, ◌-◌, ◌%◌, ◌≤◌, ◌≡◌, length}
 use Rattle.digits.specs.Digits.{decimal_in, decimal}
 use Rattle.digits.proofs.places.Given as goal

@@ -1,3 +1,4 @@
+-- The invariant: the digits still to come, before those that stand, make the output. Assumes nothing.
 use Rattle.std.proofs.Common.{◌-◌, ◌≤◌, ◌≡◌, ◌++◌, length, take, drop}
 use Rattle.digits.specs.Digits.{last_digits}
 use Rattle.digits.specs.DigitLaws.{standing}

@@ -1,3 +1,4 @@
+-- The invariant: so many records were gone past, to this place. The measure: how many are still asked for. Assumes nothing.
 use Rattle.std.proofs.Common.{◌-◌, ◌≤◌}
 use Rattle.additional_info.specs.Area.{WalkPromise}
 use Rattle.additional_info.specs.AreaSteps.{to}

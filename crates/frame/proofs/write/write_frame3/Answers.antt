@@ -5,36 +5,40 @@ use Rattle.frame.specs.WriteLaws.{sum_of, laid}
 use Rattle.frame.proofs.write.write_frame3.Goals as goal
 
 pub returns-then-short : goal.returns-then-short
-returns-then-short c = let a = c.args in
+returns-then-short c =
+    let a = c.args in
     let asked = ap (λ (k : ℕ). ltb (length a.buf.now) k) (sym (sum_of a.a.now a.b.now a.c.now)) ∙ sym c.short.ensures ∙ c.if-short.true in
     (simp asked, simp asked)
 
 pub overflow_add-total-2 : goal.overflow_add-total-2
-overflow_add-total-2 c = let a = c.args in
+overflow_add-total-2 c =
+    let a = c.args in
     let fits = ltb-false (length a.buf.now) (6 + length a.a.now + length a.b.now + length a.c.now) (sym c.short.ensures ∙ c.if-short.false) in
     omega arith
 
 pub overflow_add-total-3 : goal.overflow_add-total-3
-overflow_add-total-3 c = let a = c.args in
+overflow_add-total-3 c =
+    let a = c.args in
     let fits = ltb-false (length a.buf.now) (6 + length a.a.now + length a.b.now + length a.c.now) (sym c.short.ensures ∙ c.if-short.false) in
     omega arith
 
 pub returns-then-total-gt65535 : goal.returns-then-total-gt65535
-returns-then-total-gt65535 c = let a = c.args in
+returns-then-total-gt65535 c =
+    let a = c.args in
     let asked = ap (λ (k : ℕ). ltb (length a.buf.now) k) (sym (sum_of a.a.now a.b.now a.c.now)) ∙ sym c.short.ensures ∙ c.if-short.false in
     let large = lt-ltb 65535 (6 + length (a.a.now ++ a.b.now ++ a.c.now)) (omega (arith, sum_of a.a.now a.b.now a.c.now)) in
     (simp (asked, large), simp (asked, large))
 
 pub returns : goal.returns
-returns c = let a = c.args in
+returns c =
+    let a = c.args in
     let asked = ap (λ (k : ℕ). ltb (length a.buf.now) k) (sym (sum_of a.a.now a.b.now a.c.now)) ∙ sym c.short.ensures ∙ c.if-short.false in
     let fits = ltb-false (length a.buf.now) (6 + length a.a.now + length a.b.now + length a.c.now) (sym c.short.ensures ∙ c.if-short.false) in
     let total = sum_of a.a.now a.b.now a.c.now in
     let small = le-ltb 65535 (6 + length (a.a.now ++ a.b.now ++ a.c.now)) (omega arith) in
-    let at-encode = c in
-    let headed = rw (le-ltb (length a.buf.now) 6 (omega arith)) at at-encode.encode.ensures.1 in (
+    let headed = rw (le-ltb (length a.buf.now) 6 (omega arith)) at c.encode.ensures.1 in (
       simp (asked, small) (ap (λ (t : ℕ). done (t ∷ [])) (total ∙ omega arith)),
       simp (asked, small)
-          (laid a.service_type a.a.now a.b.now a.c.now a.buf.now at-encode.encode.new.buf c.copy_at.new.dst c.copy_at-2.new.dst c.copy_at-3.new.dst
+          (laid a.service_type a.a.now a.b.now a.c.now a.buf.now c.encode.new.buf c.copy_at.new.dst c.copy_at-2.new.dst c.copy_at-3.new.dst
           (omega arith) headed c.copy_at.ensures c.copy_at-2.ensures c.copy_at-3.ensures),
     )

@@ -5,7 +5,8 @@ use Rattle.inspection.specs.LinesLaws.{closed}
 use Rattle.inspection.proofs.lines.close.Goals as goal
 
 pub returns : goal.returns
-returns c = let a = c.args in
+returns c =
+    let a = c.args in
     let one = c.copy_at in
     let two = c.put_digits in
     let three = c.copy_at-2 in

@@ -17,13 +17,15 @@ pub overflow_add-to_end-3 : goal.overflow_add-to_end-3
 overflow_add-to_end-3 c = omega (arith, c.cut_size-to_text.ensures, cut_most c.args.cut, c.places.ensures, places_most c.args.n)
 
 pub returns-then-out-to_end : goal.returns-then-out-to_end
-returns-then-out-to_end c = let a = c.args in
+returns-then-out-to_end c =
+    let a = c.args in
     let first = c.cut_size-to_text in
     let last = c.places in
     no_room (cut_front a.cut) records_text a.out.now a.n first.result (first.result + 8 + last.result) first.ensures (omega (arith, last.ensures)) (omega arith)
 
 pub returns : goal.returns
-returns c = let a = c.args in
+returns c =
+    let a = c.args in
     let first = c.cut_size-to_text in
     let last = c.places in
     let one = c.copy_at in

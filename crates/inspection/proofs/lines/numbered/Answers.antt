@@ -15,13 +15,15 @@ pub overflow_add-to_end-3 : goal.overflow_add-to_end-3
 overflow_add-to_end-3 c = omega (arith, c.places-to_text.ensures, places_most c.args.n, c.places.ensures, places_most c.args.last)
 
 pub returns-then-out-to_end : goal.returns-then-out-to_end
-returns-then-out-to_end c = let a = c.args in
+returns-then-out-to_end c =
+    let a = c.args in
     let first = c.places-to_text in
     let last = c.places in
     no_room (decimal a.n) a.text.now a.out.now a.last first.result (first.result + length a.text.now + last.result) first.ensures (omega (arith, last.ensures)) (omega arith)
 
 pub returns : goal.returns
-returns c = let a = c.args in
+returns c =
+    let a = c.args in
     let first = c.places-to_text in
     let last = c.places in
     let one = c.put_digits in

@@ -1,4 +1,4 @@
--- The invariant: what is still to be scanned from here ends as the whole scan does. Assumes nothing.
+-- `scan`: what the loop keeps, and that its contract follows. Assumes nothing.
 use Rattle.std.proofs.Common.{ℕ, ◌+◌, arith, refl, sym, ap, subst, ◌∙◌, List, rules}
 use Rattle.frame.specs.Judging.{JudgePromise}
 use Rattle.inspection.specs.Scanning.{scan_of}
@@ -35,16 +35,19 @@ pub loop-turns-preserved : goal.loop-turns-preserved
 loop-turns-preserved c = (search rules, c.loop-turns.invariant.1 ∙ turn_hands (turn c) c.in-Bytes.size c.in-Bytes.is)
 
 pub returns-then-turns-eq0 : goal.returns-then-turns-eq0
-returns-then-turns-eq0 c = let o = c.loop-turns in
+returns-then-turns-eq0 c =
+    let o = c.loop-turns in
     let s = c.args.input.now in
     sym (o.invariant.1 ∙ ap (λ (k : ℕ). scan_of k s o.at o.used o.n o.out) c.if-turns-eq0.true ∙ no_turn s o.at o.used o.n o.out)
 
 pub returns-in-Short : goal.returns-in-Short
-returns-in-Short c = let o = c.loop-turns in
+returns-in-Short c =
+    let o = c.loop-turns in
     sym (o.invariant.1 ∙ turn_short o.turns c.args.input.now o.at o.used o.n o.out c.in-Short.ensures)
 
 pub returns-then-n-ge18446744073709551615 : goal.returns-then-n-ge18446744073709551615
-returns-then-n-ge18446744073709551615 c = let o = c.loop-turns in
+returns-then-n-ge18446744073709551615 c =
+    let o = c.loop-turns in
     sym (o.invariant.1 ∙ turn_last o.turns c.args.input.now o.at o.used o.n o.out c.in-Record.start c.in-Record.end (omega (arith, c.if-turns-eq0.false)) c.in-Record.ensures (omega (arith, c.if-n-ge18446744073709551615.true)))
 
 -- and once it was refused

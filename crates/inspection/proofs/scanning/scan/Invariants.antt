@@ -1,3 +1,4 @@
+-- The invariant: what is still to be scanned from here ends as the whole scan does. Assumes nothing.
 use Rattle.std.proofs.Common.{◌≡◌, length}
 use Rattle.inspection.specs.Scanning.{scan_of}
 use Rattle.inspection.proofs.scanning.scan.Given as goal

@@ -1,11 +1,12 @@
--- After i turns the first i bytes are moved; what is left to move falls. Assumes nothing.
+-- `move_down`: what the loop keeps, and that its contract follows. Assumes nothing.
 use Rattle.std.proofs.Common.{ℕ, ◌+◌, ◌-◌, ◌<◌, ◌≡◌, refl, sym, ap, ◌∙◌, List, ◌++◌, arith, add-one, length, length-set, length-drop, set, get_or, take, drop, take-append-drop}
 use Rattle.std.proofs.Math.Seq.{paste, paste-zero, paste-suc}
 use Rattle.inspection.specs.TurnLaws.{behind_moved}
 use Rattle.inspection.proofs.turns.move_down.Goals as goal
 
 pub returns-then-from-eq0 : goal.returns-then-from-eq0
-returns-then-from-eq0 c = let a = c.args in
+returns-then-from-eq0 c =
+    let a = c.args in
     let x : List ℕ = a.input.now in
     let same : drop a.from x ≡ x = ap (λ (k : ℕ). drop k x) c.if-from-eq0.true in
     let long : 0 + (a.to - a.from) ≡ a.to - a.from = omega arith in
@@ -15,7 +16,8 @@ pub loop-i-init : goal.loop-i-init
 loop-i-init c = (omega arith, (paste-zero c.args.input.now 0 (drop c.args.from c.args.input.now), refl))
 
 pub loop-i-preserved : goal.loop-i-preserved
-loop-i-preserved c = let l = c.loop-i in
+loop-i-preserved c =
+    let l = c.loop-i in
     let a = c.args in
     let x : List ℕ = a.input.now in
     let w : List ℕ = drop a.from x in
@@ -31,7 +33,8 @@ loop-i-preserved c = let l = c.loop-i in
     )
 
 pub returns : goal.returns
-returns c = let l = c.loop-i in
+returns c =
+    let l = c.loop-i in
     let a = c.args in
     let e : l.i ≡ a.to - a.from = omega arith in
     l.invariant.1.0 ∙ ap (paste a.input.now 0 (drop a.from a.input.now)) e

@@ -1,3 +1,4 @@
+-- After i turns the first i bytes are moved; what is left to move falls. Assumes nothing.
 use Rattle.std.proofs.Common.{◌-◌, ◌≤◌, ◌≡◌, length, drop}
 use Rattle.std.proofs.Math.Seq.{paste}
 use Rattle.inspection.proofs.turns.move_down.Given as goal

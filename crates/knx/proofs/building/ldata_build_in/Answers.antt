@@ -6,7 +6,8 @@ use Rattle.knx.specs.BuildingLaws.{as_told, tpci_is}
 use Rattle.knx.proofs.building.ldata_build_in.Goals as goal
 
 pub returns : goal.returns
-returns c = let a = c.args in
+returns c =
+    let a = c.args in
     let made : record {
       ctrl1 = c.from_u8-ctrl1.result;
       ctrl2 = c.from_u8-ctrl2.result;

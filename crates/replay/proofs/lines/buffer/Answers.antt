@@ -5,10 +5,12 @@ use Rattle.replay.specs.Laws.{touched-most, buffered}
 use Rattle.replay.proofs.lines.buffer.Goals as goal
 
 pub overflow_sub-buf : goal.overflow_sub-buf
-overflow_sub-buf c = let s = c.args.buf.now in omega (arith, c.touched-k.ensures, touched-most (length s) s)
+overflow_sub-buf c =
+    let s = c.args.buf.now in omega (arith, c.touched-k.ensures, touched-most (length s) s)
 
 pub returns : goal.returns
-returns c = let a = c.args in
+returns c =
+    let a = c.args in
     let one = c.text-a in
     let two = c.bytes-b in
     let three = c.text-c in

@@ -1,3 +1,4 @@
+-- The invariant: the pieces that are still to come make those of all bytes. Assumes nothing.
 use Rattle.std.proofs.Common.{◌≤◌, ◌-◌, ◌≡◌, length}
 use Rattle.replay.specs.Lines.{sheet, all, pieces, byte_pieces}
 use Rattle.replay.proofs.lines.bytes.Given as goal

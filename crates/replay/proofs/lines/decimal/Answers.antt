@@ -6,7 +6,8 @@ use Rattle.digits.specs.DigitLaws.{decimal_stored}
 use Rattle.replay.proofs.lines.decimal.Goals as goal
 
 pub returns : goal.returns
-returns c = let a = c.args in
+returns c =
+    let a = c.args in
     let put = c.put_digits in
     let count = c.places-count.ensures in
     fitted (decimal a.n) a.out.now put.new.out a.at _ (omega (arith, count)) (omega arith) (decimal_stored a.out.now put.new.out a.n a.at _ (omega (arith, count)) put.ensures)

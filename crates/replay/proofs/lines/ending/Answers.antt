@@ -4,6 +4,7 @@ use Rattle.replay.specs.Laws.{ended}
 use Rattle.replay.proofs.lines.ending.Goals as goal
 
 pub returns : goal.returns
-returns c = let a = c.args in
+returns c =
+    let a = c.args in
     let one = c.numbers-to in
     ended a.t (sheet a.out.now a.at) (sheet one.new.out one.result) _ one.ensures c.text.ensures

@@ -5,7 +5,8 @@ use Rattle.replay.specs.Laws.{lined}
 use Rattle.replay.proofs.lines.line.Goals as goal
 
 pub returns-then-t : goal.returns-then-t
-returns-then-t c = let a = c.args in
+returns-then-t c =
+    let a = c.args in
     let one = c.decimal-a in
     let two = c.values-b in
     let three = c.buffer-c in
@@ -14,7 +15,8 @@ returns-then-t c = let a = c.args in
     one.ensures two.ensures (three.ensures ∙ shown) c.ending.ensures
 
 pub returns : goal.returns
-returns c = let a = c.args in
+returns c =
+    let a = c.args in
     let one = c.decimal-a in
     let two = c.values-b in
     let shown = ap (λ (b : Bool). all (sheet two.new.out two.result) (cond b (buffer a.buf.now) [])) (sym c.if-t.false) in

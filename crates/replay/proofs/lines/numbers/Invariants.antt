@@ -1,3 +1,4 @@
+-- The invariant: the pieces that are still to come make those of all numbers. Assumes nothing.
 use Rattle.std.proofs.Common.{◌≤◌, ◌-◌, ◌≡◌, length}
 use Rattle.replay.specs.Lines.{sheet, all, pieces, number_pieces}
 use Rattle.replay.proofs.lines.numbers.Given as goal

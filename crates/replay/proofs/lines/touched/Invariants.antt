@@ -1,3 +1,4 @@
+-- The invariant: what is touched lies in the first k bytes. Assumes nothing.
 use Rattle.std.proofs.Common.{◌≤◌, ◌≡◌, length}
 use Rattle.replay.specs.Lines.{touched_in, touched}
 use Rattle.replay.proofs.lines.touched.Given as goal

@@ -1,3 +1,4 @@
+-- The invariant: the first i bytes hold the pattern. Assumes nothing.
 use Rattle.std.proofs.Common.{◌≤◌, ◌-◌, ◌≡◌, ◌++◌, length, take}
 use Rattle.replay.specs.Records.{pattern_from}
 use Rattle.replay.proofs.records.fill.Given as goal

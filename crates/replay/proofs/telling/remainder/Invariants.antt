@@ -1,3 +1,4 @@
+-- The invariant: the remainder of what is still to come, behind what was read, is that of all. Assumes nothing.
 use Rattle.std.proofs.Common.{◌≤◌, ◌<◌, ◌-◌, ◌≡◌, length, drop}
 use Rattle.replay.specs.Telling.{remainder_from}
 use Rattle.replay.proofs.telling.remainder.Given as goal

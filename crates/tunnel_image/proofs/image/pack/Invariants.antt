@@ -1,3 +1,4 @@
+-- After i turns the first i places are packed; what is left of the eight falls. Assumes nothing.
 use Rattle.std.proofs.Common.{◌≤◌, ◌-◌, ◌≡◌, length, take}
 use Rattle.wire.specs.Writing.{onto}
 use Rattle.tunnel_image.specs.Image.{packed}

@@ -1,3 +1,4 @@
+-- The invariant: what stands from i on decides; the measure: the places that are left. Assumes nothing.
 use Rattle.std.proofs.Common.{◌≤◌, ◌-◌, ◌≡◌, length, drop}
 use Rattle.tunnel_table.specs.Places.{seek, passing}
 use Rattle.tunnel_table.proofs.places.find.Given as goal

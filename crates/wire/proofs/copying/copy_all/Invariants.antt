@@ -1,3 +1,4 @@
+-- After each turn the first i bytes are pasted, none past the end; what is left falls. Assumes nothing.
 use Rattle.std.proofs.Common.{◌≤◌, ◌-◌, ◌≡◌, length}
 use Rattle.std.proofs.Math.Seq.{paste}
 use Rattle.wire.proofs.copying.copy_all.Given as goal

@@ -4,8 +4,8 @@ use Rattle.wire.specs.PasteLaws.{paste_through}
 use Rattle.wire.proofs.copying.copy_block.Goals as goal
 
 pub returns : goal.returns
-returns c = let q = c in
-    let a = q.args in
+returns c =
+    let a = c.args in
     let s : List ℕ = drop a.from a.src.now in
     let h : a.n ≤ length s = simp length-drop (omega arith) in
-    paste_through (replicate 64 0) a.dst.now s _ _ a.to a.n q.copy_bytes.ensures c.copy_bytes-2.ensures h
+    paste_through (replicate 64 0) a.dst.now s _ _ a.to a.n c.copy_bytes.ensures c.copy_bytes-2.ensures h

@@ -1,3 +1,4 @@
+-- After i turns the first i bytes are pasted; what is left of the n falls. Assumes nothing.
 use Rattle.std.proofs.Common.{◌≤◌, ◌-◌, ◌≡◌, length, drop}
 use Rattle.std.proofs.Math.Seq.{paste}
 use Rattle.wire.proofs.copying.copy_bytes.Given as goal

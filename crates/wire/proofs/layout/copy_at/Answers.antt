@@ -5,15 +5,18 @@ use Rattle.std.proofs.Math.Seq.{take-length}
 use Rattle.wire.proofs.layout.copy_at.Goals as goal
 
 pub returns-then-dst-at : goal.returns-then-dst-at
-returns-then-dst-at c = let a = c.args in
+returns-then-dst-at c =
+    let a = c.args in
     simp (lt-leb (a.at + length a.src.now) (length a.dst.now) (omega arith))
 
 pub returns-then-dst-at-2 : goal.returns-then-dst-at-2
-returns-then-dst-at-2 c = let a = c.args in
+returns-then-dst-at-2 c =
+    let a = c.args in
     simp (lt-leb (a.at + length a.src.now) (length a.dst.now) (omega arith))
 
 pub returns : goal.returns
-returns c = let a = c.args in
+returns c =
+    let a = c.args in
     let src : List ℕ = a.src.now in
     let dst : List ℕ = a.dst.now in
     simp (le-leb (a.at + length src) (length dst) (omega arith))

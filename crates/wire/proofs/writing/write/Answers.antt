@@ -4,8 +4,10 @@ use Rattle.wire.specs.LayoutLaws.{paste_front}
 use Rattle.wire.proofs.writing.write.Goals as goal
 
 pub returns-then-buf-bytes : goal.returns-then-buf-bytes
-returns-then-buf-bytes c = let h = lt-ltb _ _ c.if-buf-bytes.true in (simp h, simp h)
+returns-then-buf-bytes c =
+    let h = lt-ltb _ _ c.if-buf-bytes.true in (simp h, simp h)
 
 pub returns : goal.returns
-returns c = let a = c.args in
+returns c =
+    let a = c.args in
     let h = le-ltb _ _ c.if-buf-bytes.false in (simp h, simp h (c.copy_all.ensures ∙ paste_front a.buf.now a.bytes.now))

@@ -5,22 +5,26 @@ use Rattle.wire.specs.LayoutLaws.{length_three, copied_three}
 use Rattle.wire.proofs.writing.write3.Goals as goal
 
 pub returns-then-buf-a : goal.returns-then-buf-a
-returns-then-buf-a c = let a = c.args in
+returns-then-buf-a c =
+    let a = c.args in
     let h = lt-ltb (length a.buf.now) (length (a.a.now ++ a.b.now ++ a.c.now)) (omega (arith, length_three a.a.now a.b.now a.c.now)) in
     (simp h, simp h)
 
 pub returns-then-buf-a-2 : goal.returns-then-buf-a-2
-returns-then-buf-a-2 c = let a = c.args in
+returns-then-buf-a-2 c =
+    let a = c.args in
     let h = lt-ltb (length a.buf.now) (length (a.a.now ++ a.b.now ++ a.c.now)) (omega (arith, length_three a.a.now a.b.now a.c.now)) in
     (simp h, simp h)
 
 pub returns-then-buf-a-3 : goal.returns-then-buf-a-3
-returns-then-buf-a-3 c = let a = c.args in
+returns-then-buf-a-3 c =
+    let a = c.args in
     let h = lt-ltb (length a.buf.now) (length (a.a.now ++ a.b.now ++ a.c.now)) (omega (arith, length_three a.a.now a.b.now a.c.now)) in
     (simp h, simp h)
 
 pub returns : goal.returns
-returns c = let a = c.args in
+returns c =
+    let a = c.args in
     let long = length_three a.a.now a.b.now a.c.now in
     let h = le-ltb (length a.buf.now) (length (a.a.now ++ a.b.now ++ a.c.now)) (omega arith) in (
       simp h (ap (λ (n : ℕ). done (n ∷ [])) (sym long)),

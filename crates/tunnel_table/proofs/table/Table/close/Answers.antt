@@ -16,11 +16,13 @@ pub put-requires : goal.put-requires
 put-requires c = c.in-At.ensures.below
 
 pub returns-in-Nothing : goal.returns-in-Nothing
-returns-in-Nothing c = let a = c.args in
+returns-in-Nothing c =
+    let a = c.args in
     ap (λ (r : Called). called_as r []) c.refuse.ensures ∙ at_none a.self a.id (sym c.in-Nothing.ensures.value) 0 (λ t. lone t (Close a.id)) [] ∙ step-on a.self.places (Close a.id) a.id refl refl
 
 pub returns-in-At : goal.returns-in-At
-returns-in-At c = let a = c.args in
+returns-in-At c =
+    let a = c.args in
     let i = c.in-At.i in
     let d : Place = record { hold = Free } in
     ap (λ (r : Called). called_as r []) (c.say.ensures ∙ ap (λ (t : Table). saying t 0 Nothing) c.put.ensures)

@@ -14,7 +14,8 @@ use Rattle.tunnel_table.specs.declared.table.Reaction.{Reaction}
 use Rattle.tunnel_table.proofs.table.Table.request.Goals as goal
 
 pub offset_bounds-places-i : goal.offset_bounds-places-i
-offset_bounds-places-i c = let h = c.in-At.ensures.below in omega arith
+offset_bounds-places-i c =
+    let h = c.in-At.ensures.below in omega arith
 
 pub bounds-places-i : goal.bounds-places-i
 bounds-places-i c = c.in-At.ensures.below
@@ -26,12 +27,14 @@ pub react-requires-in-Duplicate : goal.react-requires-in-Duplicate
 react-requires-in-Duplicate c = c.in-At.ensures.below
 
 pub returns-in-Nothing : goal.returns-in-Nothing
-returns-in-Nothing c = let a = c.args in
+returns-in-Nothing c =
+    let a = c.args in
     let out = a.out.now in
     ap (λ (r : Called). called_as r out) c.refuse_at.ensures ∙ at_none a.self a.channel (sym c.in-Nothing.ensures.value) channel_offset (request_rule a.form a.channel a.number a.end out) out
 
 pub returns-in-Deliver : goal.returns-in-Deliver
-returns-in-Deliver c = let a = c.args in
+returns-in-Deliver c =
+    let a = c.args in
     let out = a.out.now in
     let t = c.tunnel_in-tunnel.result in
     let i = c.in-At.i in
@@ -40,7 +43,8 @@ returns-in-Deliver c = let a = c.args in
     c.react.ensures ∙ at_react a.self a.channel i _ (sym c.in-At.ensures.value) t c.tunnel_in-tunnel.ensures channel_offset a.form (verdict (build_checks (form_by a.form) (length out))) a.number x (request_rule a.form a.channel a.number a.end out) out (ap (λ (x : Arrival). arrived a.form x t a.channel a.number a.end out) (sym c.in-Deliver.ensures) ∙ next)
 
 pub returns-in-Duplicate : goal.returns-in-Duplicate
-returns-in-Duplicate c = let a = c.args in
+returns-in-Duplicate c =
+    let a = c.args in
     let out = a.out.now in
     let t = c.tunnel_in-tunnel.result in
     let i = c.in-At.i in
@@ -48,7 +52,8 @@ returns-in-Duplicate c = let a = c.args in
     c.react-in-Duplicate.ensures ∙ at_react a.self a.channel i _ (sym c.in-At.ensures.value) t c.tunnel_in-tunnel.ensures channel_offset a.form (verdict (build_checks (form_by a.form) (length out))) a.number x (request_rule a.form a.channel a.number a.end out) out (ap (λ (x : Arrival). arrived a.form x t a.channel a.number a.end out) (sym c.in-Duplicate.ensures))
 
 pub returns-in-OutOfOrder : goal.returns-in-OutOfOrder
-returns-in-OutOfOrder c = let a = c.args in
+returns-in-OutOfOrder c =
+    let a = c.args in
     let out = a.out.now in
     let t = c.tunnel_in-tunnel.result in
     let i = c.in-At.i in

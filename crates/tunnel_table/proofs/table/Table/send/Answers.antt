@@ -21,13 +21,15 @@ use Rattle.wire.specs.declared.refusals.Written.TheVariants.{Bytes, Refused}
 use Rattle.tunnel_table.proofs.table.Table.send.Goals as goal
 
 pub offset_bounds-places-i : goal.offset_bounds-places-i
-offset_bounds-places-i c = let h = c.in-At.ensures.below in omega arith
+offset_bounds-places-i c =
+    let h = c.in-At.ensures.below in omega arith
 
 pub bounds-places-i : goal.bounds-places-i
 bounds-places-i c = c.in-At.ensures.below
 
 pub returns-then-waits : goal.returns-then-waits
-returns-then-waits c = let a = c.args in
+returns-then-waits c =
+    let a = c.args in
     let cemi = a.cemi.now in
     let out = a.out.now in
     let call = Send a.id cemi out in
@@ -41,7 +43,8 @@ pub put-table-requires : goal.put-table-requires
 put-table-requires c = c.in-At.ensures.below
 
 pub returns-in-Nothing : goal.returns-in-Nothing
-returns-in-Nothing c = let a = c.args in
+returns-in-Nothing c =
+    let a = c.args in
     let cemi = a.cemi.now in
     let out = a.out.now in
     let call = Send a.id cemi out in
@@ -49,7 +52,8 @@ returns-in-Nothing c = let a = c.args in
     ∙ step-on a.self.places call a.id refl refl
 
 pub returns-in-Bytes : goal.returns-in-Bytes
-returns-in-Bytes c = let a = c.args in
+returns-in-Bytes c =
+    let a = c.args in
     let cemi = a.cemi.now in
     let out = a.out.now in
     let call = Send a.id cemi out in
@@ -70,7 +74,8 @@ returns-in-Bytes c = let a = c.args in
     ∙ step-on a.self.places call a.id refl refl
 
 pub returns-in-Refused : goal.returns-in-Refused
-returns-in-Refused c = let a = c.args in
+returns-in-Refused c =
+    let a = c.args in
     let cemi = a.cemi.now in
     let out = a.out.now in
     let call = Send a.id cemi out in
