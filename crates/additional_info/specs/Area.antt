@@ -1,19 +1,17 @@
 -- 02, 1/13: "a row of records, each a type byte, a length byte and that many data bytes, filling the area exactly". Assumes nothing.
-use Rattle.std.specs.Prelude.{ℕ, zero, suc, ◌+◌, ◌-◌, ◌*◌, ◌≡◌, Bool, true, false, cond, List, [], ◌∷◌, ◌++◌, length, take, drop, get_or, eqb, ltb}
+use Rattle.std.specs.Prelude.{ℕ, zero, suc, ◌+◌, ◌-◌, ◌*◌, ◌≡◌, Bool, true, false, cond, List, [], ◌∷◌, ◌++◌, length, take, drop, get_or, eqb, ltb, Result, Ok, Err, Option, Some, None}
 use Rattle.wire.specs.Told.{Told, done, refused, Check, ◌⇒◌, verdict, judged}
 use Rattle.wire.specs.Places.{located}
 use Rattle.wire.specs.Layout.{Field, byte, size, put, get, word_at}
 use Rattle.wire.specs.declared.refusals.Refusal.TheVariants.{InvalidAdditionalInfo}
-use Rattle.wire.specs.declared.refusals.Verdict.{Verdict}
-use Rattle.wire.specs.declared.refusals.Verdict.TheVariants.{Accept, Refuse}
+use Rattle.wire.specs.Told.{Verdict}
 use Rattle.additional_info.specs.InfoType.{type_of}
 use Rattle.additional_info.specs.InfoType as InfoType
 use Rattle.additional_info.specs.declared.info_type.AdditionalInfoType.{AdditionalInfoType}
-use Rattle.additional_info.specs.declared.area.Timestamp.{Timestamp}
 use Rattle.additional_info.specs.declared.area.AdditionalInfo.{AdditionalInfo}
 use Rattle.additional_info.specs.declared.area.AdditionalInfoAnswer.{AdditionalInfoAnswer}
-use Rattle.additional_info.specs.declared.area.CountAnswer.{CountAnswer}
 use Rattle.additional_info.specs.declared.area.Walked.{Walked}
+use Rattle.wire.specs.declared.refusals.Fault.{Fault}
 
 -- ---- the layout
 
@@ -70,8 +68,8 @@ abbrev pub offsets : List ℕ
 offsets = 0 ∷ 0 ∷ []
 
 abbrev pub accepts : Verdict → Bool
-accepts Accept = true
-accepts (Refuse e) = false
+accepts (Ok tt) = true
+accepts (Err e) = false
 
 -- a record stands at the front; of an empty area none does
 abbrev pub stands : List ℕ → Bool
@@ -111,22 +109,22 @@ area_offsets s = place_of (length s) s ∷ []
 -- ---- what is told
 
 -- a relative timestamp has two bytes, an extended one four; any other record has no value. `04 02 12 34` is 0x1234, `04 01 12` has none
-abbrev pub timestamp_of : Info → Timestamp
+abbrev pub timestamp_of : Info → Option ℕ
 timestamp_of i =
-    cond (eqb i.code 0x04) (cond (eqb (length i.«data») 2) (Timestamp.Value (word_at i.«data» 0)) Timestamp.None)
-    (cond (eqb i.code 0x06) (cond (eqb (length i.«data») 4) (Timestamp.Value (word_at i.«data» 0 * 65536 + word_at i.«data» 2)) Timestamp.None) Timestamp.None)
+    cond (eqb i.code 0x04) (cond (eqb (length i.«data») 2) (Some (word_at i.«data» 0)) None)
+    (cond (eqb i.code 0x06) (cond (eqb (length i.«data») 4) (Some (word_at i.«data» 0 * 65536 + word_at i.«data» 2)) None) None)
 
 -- 1 and the value, or 0 and 0
-abbrev pub valued_of : Timestamp → ℕ
-valued_of (Timestamp.Value n) = 1
-valued_of Timestamp.None = 0
+abbrev pub valued_of : Option ℕ → ℕ
+valued_of (Some n) = 1
+valued_of None = 0
 
-abbrev pub value_of : Timestamp → ℕ
-value_of (Timestamp.Value n) = n
-value_of Timestamp.None = 0
+abbrev pub value_of : Option ℕ → ℕ
+value_of (Some n) = n
+value_of None = 0
 
 -- a record: that there is one, its type, its timestamp
-abbrev pub values_of : AdditionalInfoType → Timestamp → List ℕ
+abbrev pub values_of : AdditionalInfoType → Option ℕ → List ℕ
 values_of t x = 1 ∷ InfoType.values t ++ valued_of x ∷ value_of x ∷ []
 
 -- its data as a view
@@ -169,9 +167,9 @@ parse_where s = located (checks s) offsets (parse_by02 s)
 abbrev pub ParsePromise : List ℕ → AdditionalInfoAnswer → Type 0
 ParsePromise s r = told r ≡ parse_where s
 
-abbrev pub told_count : CountAnswer → Told
-told_count (CountAnswer.Count n) = done (n ∷ [])
-told_count (CountAnswer.Refused e) = refused 1 e
+abbrev pub told_count : Result ℕ Fault → Told
+told_count (Ok n) = done (n ∷ [])
+told_count (Err e) = refused 1 e
 
 abbrev pub count_by02 : List ℕ → Told
 count_by02 s = judged (area_check s ∷ []) (done (length (all_in s) ∷ []))
@@ -179,7 +177,7 @@ count_by02 s = judged (area_check s ∷ []) (done (length (all_in s) ∷ []))
 abbrev pub count_where : List ℕ → Told
 count_where s = located (area_check s ∷ []) (area_offsets s) (count_by02 s)
 
-abbrev pub CountPromise : List ℕ → CountAnswer → Type 0
+abbrev pub CountPromise : List ℕ → Result ℕ Fault → Type 0
 CountPromise s r = told_count r ≡ count_where s
 
 -- the record behind n others, or none
@@ -204,7 +202,7 @@ taken s = cond (stands s) (end_of s) 0
 abbrev pub at_most : ℕ → ℕ
 at_most n = cond (ltb n 8) n 8
 
-abbrev pub TimestampPromise : ℕ → List ℕ → Timestamp → Type 0
+abbrev pub TimestampPromise : ℕ → List ℕ → Option ℕ → Type 0
 TimestampPromise code «data» r = r ≡ timestamp_of (record { code = code; «data» = «data» })
 
 abbrev pub RecordPromise : List ℕ → ℕ → AdditionalInfo → Type 0

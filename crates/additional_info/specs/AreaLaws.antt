@@ -1,5 +1,5 @@
 -- What the answers say: the record that is handed out, the count, zeros beside a refusal, and no second answer. Assumes nothing.
-use Rattle.std.specs.Prelude.{ℕ, suc, ◌+◌, ◌-◌, ◌<◌, ◌≡◌, Bool, true, false, cond, List, [], ◌∷◌, ◌++◌, length, take, drop, eqb, ltb}
+use Rattle.std.specs.Prelude.{ℕ, suc, ◌+◌, ◌-◌, ◌<◌, ◌≡◌, Bool, true, false, cond, List, [], ◌∷◌, ◌++◌, length, take, drop, eqb, ltb, Result, Ok, Err, Option, Some, None}
 use Rattle.std.proofs.Common.{arith, sym, ◌∙◌, length-drop, drop_at, drop-drop, le-ltb, ltb-true, ne_eqb}
 use Rattle.std.proofs.Math.Path.{refl, ap}
 use Rattle.std.proofs.Math.ListN.{get_or}
@@ -12,18 +12,14 @@ use Rattle.wire.specs.PlaceLaws.{located_pass, was_fallen, falls_so, all_at_0, f
 use Rattle.wire.specs.Refusing.{Refusing, judged-refusing}
 use Rattle.wire.specs.Parts.{part_of}
 use Rattle.wire.specs.declared.refusals.Fault.{Fault}
-use Rattle.wire.specs.declared.refusals.Standing.TheVariants as Standing
 use Rattle.wire.specs.declared.refusals.Refusal.TheVariants.{InvalidAdditionalInfo}
-use Rattle.wire.specs.declared.refusals.Verdict.TheVariants.{Accept, Refuse}
 use Rattle.additional_info.specs.InfoType.{code_of, type_of}
 use Rattle.additional_info.specs.InfoTypeLaws.{code_back, type_from, type_back}
 use Rattle.additional_info.specs.Area.{Info, layout, Readable, code_in, length_in, end_of, data_in, info_in, rest_of, checks, offsets, accepts, stands, records_in, behind, all_in, place_of, unfilled, area_check, area_offsets, timestamp_of, valued_of, value_of, values_of, told_record, nothing, told, record_by02, parse_by02, parse_where, ParsePromise, told_count, CountPromise, nth_in, nth_where, NthPromise}
 use Rattle.additional_info.specs.WalkLaws.{all-taken, behind_is, ended, fills_one, front_is, info-first, is_readable, one_more, passes, readable_passes, records_add, records-most, records-on, refuses, stands-first, stood}
 use Rattle.additional_info.specs.declared.info_type.AdditionalInfoType.{AdditionalInfoType}
-use Rattle.additional_info.specs.declared.area.Timestamp.{Timestamp}
 use Rattle.additional_info.specs.declared.area.AdditionalInfo.{AdditionalInfo}
 use Rattle.additional_info.specs.declared.area.AdditionalInfoAnswer.{AdditionalInfoAnswer}
-use Rattle.additional_info.specs.declared.area.CountAnswer.{CountAnswer}
 
 -- ---- where it was refused
 
@@ -40,9 +36,9 @@ pub record_later : (s : List ℕ) → unfilled s ≡ true → standing (area_che
 record_later s h =
     let here : ℕ = place_of (length s) s in
     let still : here ≡ here + 0 = omega arith in
-    let fall : standing (checks (behind (length s) s)) offsets ≡ Standing.Falls (nowhere InvalidAdditionalInfo) =
+    let fall : standing (checks (behind (length s) s)) offsets ≡ Err (nowhere InvalidAdditionalInfo) =
     falls_at_0 (checks (behind (length s) s)) offsets InvalidAdditionalInfo (omega arith, (omega arith, omega arith)) (refuses (behind (length s) s) (ended (length s) s (omega arith))) in
-    simp h (ap (λ (o : ℕ). Standing.Falls (record { why = InvalidAdditionalInfo; at = o })) still ∙ ap (later here) (sym fall))
+    simp h (ap (λ (o : ℕ). Err (record { why = InvalidAdditionalInfo; at = o })) still ∙ ap (later here) (sym fall))
 
 -- ---- the record that is handed out
 
@@ -113,15 +109,15 @@ nth_shows s n r p = go (ltb n (length (all_in s))) refl (let_through (area_check
 
 -- ---- no second answer
 
-timestamp_from : ℕ → ℕ → Timestamp
-timestamp_from valued value = cond (eqb valued 1) (Timestamp.Value value) Timestamp.None
+timestamp_from : ℕ → ℕ → Option ℕ
+timestamp_from valued value = cond (eqb valued 1) (Some value) None
 
-timestamp_back : (x : Timestamp) → timestamp_from (valued_of x) (value_of x) ≡ x
+timestamp_back : (x : Option ℕ) → timestamp_from (valued_of x) (value_of x) ≡ x
 unfolding timestamp_from
-timestamp_back (Timestamp.Value n) = refl
-timestamp_back Timestamp.None = refl
+timestamp_back (Some n) = refl
+timestamp_back None = refl
 
-abbrev record_from : AdditionalInfoType → Timestamp → ℕ → ℕ → AdditionalInfoAnswer
+abbrev record_from : AdditionalInfoType → Option ℕ → ℕ → ℕ → AdditionalInfoAnswer
 record_from t x start end = AdditionalInfoAnswer.Record (record { info_type = t; timestamp = x; start = start; end = end })
 
 abbrev answer_from : Told → AdditionalInfoAnswer
@@ -135,7 +131,7 @@ answer_from t =
 told_back : (r : AdditionalInfoAnswer) → answer_from (told r) ≡ r
 told_back (AdditionalInfoAnswer.Record r) =
     ap (λ (t : AdditionalInfoType). record_from t (timestamp_from (valued_of r.timestamp) (value_of r.timestamp)) r.start r.end) (type_back r.info_type)
-    ∙ ap (λ (x : Timestamp). record_from r.info_type x r.start r.end) (timestamp_back r.timestamp)
+    ∙ ap (λ (x : Option ℕ). record_from r.info_type x r.start r.end) (timestamp_back r.timestamp)
 told_back AdditionalInfoAnswer.None = refl
 told_back (AdditionalInfoAnswer.Refused e) = simp (ne_eqb (number_of e.why) 0 (never_done e.why), (numbered e.why).back)
 
@@ -148,15 +144,15 @@ parse_one s r q a b = told_one r q (same a b)
 pub nth_one : (s : List ℕ) (n : ℕ) (r q : AdditionalInfoAnswer) → NthPromise s n r → NthPromise s n q → r ≡ q
 nth_one s n r q a b = told_one r q (same a b)
 
-abbrev count_of : List ℕ → CountAnswer
-count_of vs = CountAnswer.Count (get_or vs 0 0)
+abbrev count_of : List ℕ → Result ℕ Fault
+count_of vs = Ok (get_or vs 0 0)
 
-count_back : (r : CountAnswer) → answer_of count_of CountAnswer.Refused (told_count r) ≡ r
-count_back (CountAnswer.Count n) = refl
-count_back (CountAnswer.Refused e) = back_refused count_of CountAnswer.Refused 1 e
+count_back : (r : Result ℕ Fault) → answer_of count_of Err (told_count r) ≡ r
+count_back (Ok n) = refl
+count_back (Err e) = back_refused count_of Err 1 e
 
-pub count_one : (s : List ℕ) (r q : CountAnswer) → CountPromise s r → CountPromise s q → r ≡ q
-count_one s r q a b = one_to_one told_count (answer_of count_of CountAnswer.Refused) count_back r q (same a b)
+pub count_one : (s : List ℕ) (r q : Result ℕ Fault) → CountPromise s r → CountPromise s q → r ≡ q
+count_one s r q a b = one_to_one told_count (answer_of count_of Err) count_back r q (same a b)
 
 -- ---- what a count says
 
@@ -165,32 +161,32 @@ module _ (s : List ℕ) where
   counts : Told
   counts = done (length (all_in s) ∷ [])
 
-  pub counted : (n : ℕ) → CountPromise s (CountAnswer.Count n) → (verdict (area_check s ∷ []) ≡ Accept) × (n ≡ length (all_in s))
+  pub counted : (n : ℕ) → CountPromise s (Ok n) → (verdict (area_check s ∷ []) ≡ Ok tt) × (n ≡ length (all_in s))
   unfolding counts
   counted n p =
       (was_accepted (area_check s ∷ []) counts (done (n ∷ [])) refl p, ap (λ (t : Told). get_or t.values 0 0) (let_through (area_check s ∷ []) counts (done (n ∷ [])) refl p))
 
-  pub not_counted : (e : Fault) → CountPromise s (CountAnswer.Refused e) → standing (area_check s ∷ []) (area_offsets s) ≡ Standing.Falls e
+  pub not_counted : (e : Fault) → CountPromise s (Err e) → standing (area_check s ∷ []) (area_offsets s) ≡ Err e
   unfolding counts
   not_counted e p = was_fallen (area_check s ∷ []) (area_offsets s) counts 1 e refl p
 
-  pub was_filled : (n : ℕ) → CountPromise s (CountAnswer.Count n) → unfilled s ≡ false
+  pub was_filled : (n : ℕ) → CountPromise s (Ok n) → unfilled s ≡ false
   was_filled n p = holds [] (unfilled s) InvalidAdditionalInfo [] (counted n p).0
 
-  pub was_unfilled : (e : Fault) → CountPromise s (CountAnswer.Refused e) → unfilled s ≡ true
+  pub was_unfilled : (e : Fault) → CountPromise s (Err e) → unfilled s ≡ true
   was_unfilled e p = go (unfilled s) (falls_so (area_check s ∷ []) (area_offsets s) e (not_counted e p)).0
     where
-      go : (b : Bool) → cond b (Refuse InvalidAdditionalInfo) Accept ≡ Refuse e.why → b ≡ true
+      go : (b : Bool) → cond b (Err InvalidAdditionalInfo) Ok tt ≡ Err e.why → b ≡ true
       go true q = refl
       go false q = never cc
 
 -- a count is of the records that fill the area
-pub count_readable : (s : List ℕ) (n : ℕ) → CountPromise s (CountAnswer.Count n) → (x : Readable s) × (n ≡ length x.records)
+pub count_readable : (s : List ℕ) (n : ℕ) → CountPromise s (Ok n) → (x : Readable s) × (n ≡ length x.records)
 count_readable s n p = let k = counted s n p in let x : Readable s = is_readable s k.0 in (x, k.1 ∙ ap length (fills_one s x))
 
-pub readable_count : (s : List ℕ) (x : Readable s) (r : CountAnswer) → CountPromise s r → r ≡ CountAnswer.Count (length x.records)
+pub readable_count : (s : List ℕ) (x : Readable s) (r : Result ℕ Fault) → CountPromise s r → r ≡ Ok (length x.records)
 readable_count s x r p =
-    count_one s r (CountAnswer.Count (length x.records)) p
+    count_one s r (Ok (length x.records)) p
     (ap (λ (l : List Info). done (length l ∷ [])) (sym (fills_one s x)) ∙ sym (located_pass (area_check s ∷ []) (area_offsets s) (done (length (all_in s) ∷ [])) refl refl (readable_passes s x)))
 
 -- ---- a refusal has zeros

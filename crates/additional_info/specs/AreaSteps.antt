@@ -1,5 +1,5 @@
 -- One law of the reader for each way out of its code. Assumes nothing.
-use Rattle.std.specs.Prelude.{ℕ, zero, suc, ◌+◌, ◌-◌, ◌<◌, ◌≤◌, ◌≡◌, refl, Bool, true, false, cond, List, [], ◌∷◌, ◌++◌, length, take, drop, get_or, ltb}
+use Rattle.std.specs.Prelude.{ℕ, zero, suc, ◌+◌, ◌-◌, ◌<◌, ◌≤◌, ◌≡◌, refl, Bool, true, false, cond, List, [], ◌∷◌, ◌++◌, length, take, drop, get_or, ltb, Ok, Err, Option}
 use Rattle.std.proofs.Common.{arith, sym, ap, ◌∙◌, append-nil, length-append, length-drop, lt-ltb, le-ltb, ltb-false, eq-eqb, ne_eqb}
 use Rattle.wire.specs.Told.{done, refused, nowhere}
 use Rattle.wire.specs.ToldLaws.{let_pass, let_refuse}
@@ -13,10 +13,8 @@ use Rattle.additional_info.specs.Area.{Info, code_in, length_in, end_of, data_in
 use Rattle.additional_info.specs.WalkLaws.{stopped, all-taken, behind_add, behind_is, behind-on, behind_stop, one_more, parted, passes, records_add, records-most, records-on, records_stop, refuses, stood}
 use Rattle.additional_info.specs.AreaLaws.{first_where, counted, not_counted}
 use Rattle.additional_info.specs.declared.info_type.AdditionalInfoType.{AdditionalInfoType}
-use Rattle.additional_info.specs.declared.area.Timestamp.{Timestamp}
 use Rattle.additional_info.specs.declared.area.AdditionalInfo.{AdditionalInfo}
 use Rattle.additional_info.specs.declared.area.AdditionalInfoAnswer.{AdditionalInfoAnswer}
-use Rattle.additional_info.specs.declared.area.CountAnswer.{CountAnswer}
 use Rattle.additional_info.specs.declared.area.Walked.{Walked}
 
 -- ---- for the code
@@ -46,7 +44,7 @@ pub placed : (s : List ℕ) (at : ℕ) → stands (drop at s) ≡ true → at + 
 placed s at h = let w = stood (drop at s) h in omega (arith, length-drop at s)
 
 -- a record as it is read from the part behind a place
-pub reads : (s : List ℕ) (at : ℕ) → stands (drop at s) ≡ true → (rest : List ℕ) (code many : ℕ) («data» : List ℕ) (t : AdditionalInfoType) (x : Timestamp)
+pub reads : (s : List ℕ) (at : ℕ) → stands (drop at s) ≡ true → (rest : List ℕ) (code many : ℕ) («data» : List ℕ) (t : AdditionalInfoType) (x : Option ℕ)
     → rest ≡ part_of s at (length s) → code ≡ get_or rest 0 0 → many ≡ get_or rest 1 0 → «data» ≡ part_of rest 2 (2 + many) → t ≡ type_of code → x ≡ timestamp_of (record { code = code; «data» = «data» })
     → told_record (record { info_type = t; timestamp = x; start = at + 2; end = at + (2 + many) }) ≡ record_by02 at (drop at s)
 reads s at h rest code many «data» t x part first second shown typed valued =
@@ -183,12 +181,12 @@ turn n m at k s rest r few p e shown w =
     }
 
 -- all records walked past: something remains, or nothing does
-pub count-refused : (s : List ℕ) (r : Walked) → WalkPromise (length s) s r → r.at < length s → CountPromise s (CountAnswer.Refused (record { why = InvalidAdditionalInfo; at = r.at }))
+pub count-refused : (s : List ℕ) (r : Walked) → WalkPromise (length s) s r → r.at < length s → CountPromise s (Err (record { why = InvalidAdditionalInfo; at = r.at }))
 count-refused s r p h =
     let a = (parted (length s) s).place_rest in
     simp (lt-ltb 0 (length (behind (length s) s)) (omega (arith, p.1))) (ap (λ (o : ℕ). refused 1 (record { why = InvalidAdditionalInfo; at = o })) p.1)
 
-pub count-done : (s : List ℕ) (r : Walked) → WalkPromise (length s) s r → length s ≤ r.at → CountPromise s (CountAnswer.Count r.records)
+pub count-done : (s : List ℕ) (r : Walked) → WalkPromise (length s) s r → length s ≤ r.at → CountPromise s (Ok r.records)
 count-done s r p h =
     let a = (parted (length s) s).place_rest in
     simp (le-ltb 0 (length (behind (length s) s)) (omega (arith, p.1))) (ap (λ (n : ℕ). done (n ∷ [])) p.0)
@@ -202,24 +200,24 @@ nth_nowhere s n = go (ltb n (length (all_in s)))
     go false = refl
 
 -- behind the last record there is none
-pub nth_none : (s : List ℕ) (n m : ℕ) → CountPromise s (CountAnswer.Count m) → m ≤ n → NthPromise s n AdditionalInfoAnswer.None
+pub nth_none : (s : List ℕ) (n m : ℕ) → CountPromise s (Ok m) → m ≤ n → NthPromise s n AdditionalInfoAnswer.None
 nth_none s n m p h =
     let k = counted s m p in
     sym (located_pass (area_check s ∷ []) (area_offsets s) (nth_in s n) refl (nth_nowhere s n) k.0 ∙ simp (le-ltb n (length (all_in s)) (omega (arith, k.1))))
 
 -- one stands at the place behind n others, and is read there
-pub nth_stands : (s : List ℕ) (n m : ℕ) (r : Walked) → CountPromise s (CountAnswer.Count m) → n < m → WalkPromise n s r → stands (drop r.at s) ≡ true
+pub nth_stands : (s : List ℕ) (n m : ℕ) (r : Walked) → CountPromise s (Ok m) → n < m → WalkPromise n s r → stands (drop r.at s) ≡ true
 nth_stands s n m r p h w =
     ap (λ (k : ℕ). stands (drop k s)) w.1 ∙ ap stands (behind_is n s) ∙ one_more n s (omega (arith, (counted s m p).1))
 
-pub nth_read : (s : List ℕ) (n m : ℕ) (r : Walked) (i : AdditionalInfo) → CountPromise s (CountAnswer.Count m) → n < m → WalkPromise n s r → RecordPromise s r.at i → NthPromise s n (AdditionalInfoAnswer.Record i)
+pub nth_read : (s : List ℕ) (n m : ℕ) (r : Walked) (i : AdditionalInfo) → CountPromise s (Ok m) → n < m → WalkPromise n s r → RecordPromise s r.at i → NthPromise s n (AdditionalInfoAnswer.Record i)
 nth_read s n m r i p h w q =
     let k = counted s m p in
     let at : record_by02 r.at (drop r.at s) ≡ record_by02 (place_of n s) (behind n s) = ap (λ (x : ℕ). record_by02 x (drop x s)) w.1 ∙ ap (record_by02 (place_of n s)) (behind_is n s) in
     q ∙ at ∙ sym (located_pass (area_check s ∷ []) (area_offsets s) (nth_in s n) refl (nth_nowhere s n) k.0 ∙ simp (lt-ltb n (length (all_in s)) (omega (arith, k.1))))
 
 -- an area that is not readable has no n-th
-pub nth_refused : (s : List ℕ) (n : ℕ) (e : Fault) → CountPromise s (CountAnswer.Refused e) → NthPromise s n (AdditionalInfoAnswer.Refused e)
+pub nth_refused : (s : List ℕ) (n : ℕ) (e : Fault) → CountPromise s (Err e) → NthPromise s n (AdditionalInfoAnswer.Refused e)
 nth_refused s n e p = ap (λ (k : ℕ). refused k e) (sym (five (ltb n (length (all_in s))))) ∙ sym (located_fall (area_check s ∷ []) (area_offsets s) (nth_in s n) e (not_counted s e p))
   where
     five : (b : Bool) → length (cond b (record_by02 (place_of n s) (behind n s)) nothing).values ≡ 5

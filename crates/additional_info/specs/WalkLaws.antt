@@ -1,10 +1,9 @@
 -- Laws of the walk: the record at the front, the records and what remains, and that they decide what is readable. Assumes nothing.
-use Rattle.std.specs.Prelude.{ℕ, zero, suc, ◌+◌, ◌-◌, ◌<◌, ◌≤◌, ◌≡◌, refl, Bool, true, false, cond, List, [], ◌∷◌, ◌++◌, length, drop, ltb}
+use Rattle.std.specs.Prelude.{ℕ, zero, suc, ◌+◌, ◌-◌, ◌<◌, ◌≤◌, ◌≡◌, refl, Bool, true, false, cond, List, [], ◌∷◌, ◌++◌, length, drop, ltb, Ok, Err}
 use Rattle.std.proofs.Common.{arith, sym, ap, ◌∙◌, append_assoc, append-nil, length-append, length-drop, take-append-drop, length-take-le, take_at, drop_at, drop-drop, le-ltb, ltb-false, ltb-true}
 use Rattle.wire.specs.Clash.{never}
 use Rattle.wire.specs.Told.{verdict}
 use Rattle.wire.specs.declared.refusals.Refusal.TheVariants.{InvalidAdditionalInfo}
-use Rattle.wire.specs.declared.refusals.Verdict.TheVariants.{Accept, Refuse}
 use Rattle.additional_info.specs.Area.{Info, layout, row, Readable, end_of, info_in, rest_of, checks, accepts, stands, records_in, behind, all_in, place_of, area_check}
 
 -- ---- the record at the front
@@ -18,20 +17,20 @@ pub stood : (s : List ℕ) → stands s ≡ true → Stood s
 stood s h = go (ltb (length s) 2) (ltb (length s) (end_of s)) refl refl h
   where
     go : (a b : Bool) → ltb (length s) 2 ≡ a → ltb (length s) (end_of s) ≡ b
-        → accepts (cond a (Refuse InvalidAdditionalInfo) (cond b (Refuse InvalidAdditionalInfo) Accept)) ≡ true → Stood s
+        → accepts (cond a (Err InvalidAdditionalInfo) (cond b (Err InvalidAdditionalInfo) (Ok tt))) ≡ true → Stood s
     go true b p q k = never cc
     go false true p q k = never cc
     go false false p q k = record { two = ltb-false (length s) 2 p; whole = ltb-false (length s) (end_of s) q }
 
 -- what the two checks say
-pub passes : (s : List ℕ) → stands s ≡ true → verdict (checks s) ≡ Accept
+pub passes : (s : List ℕ) → stands s ≡ true → verdict (checks s) ≡ Ok tt
 passes s h = let w = stood s h in simp (le-ltb (length s) 2 w.two, le-ltb (length s) (end_of s) w.whole)
 
-pub refuses : (s : List ℕ) → stands s ≡ false → verdict (checks s) ≡ Refuse InvalidAdditionalInfo
+pub refuses : (s : List ℕ) → stands s ≡ false → verdict (checks s) ≡ Err InvalidAdditionalInfo
 refuses s h = go (ltb (length s) 2) (ltb (length s) (end_of s)) h
   where
-    go : (a b : Bool) → accepts (cond a (Refuse InvalidAdditionalInfo) (cond b (Refuse InvalidAdditionalInfo) Accept)) ≡ false
-        → cond a (Refuse InvalidAdditionalInfo) (cond b (Refuse InvalidAdditionalInfo) Accept) ≡ Refuse InvalidAdditionalInfo
+    go : (a b : Bool) → accepts (cond a (Err InvalidAdditionalInfo) (cond b (Err InvalidAdditionalInfo) (Ok tt))) ≡ false
+        → cond a (Err InvalidAdditionalInfo) (cond b (Err InvalidAdditionalInfo) (Ok tt)) ≡ Err InvalidAdditionalInfo
     go true b k = refl
     go false true k = refl
     go false false k = never cc
@@ -234,13 +233,13 @@ module _ (s : List ℕ) (x : Readable s) where
 
 -- ---- the walk decides what is readable, both ways
 
-pub is_readable : (s : List ℕ) → verdict (area_check s ∷ []) ≡ Accept → Readable s
+pub is_readable : (s : List ℕ) → verdict (area_check s ∷ []) ≡ Ok tt → Readable s
 is_readable s q = go (behind (length s) s) (walked (length s) s) (ltb 0 (length (behind (length s) s))) refl q
   where
-    go : (l : List ℕ) → row (all_in s) ++ l ≡ s → (b : Bool) → ltb 0 (length l) ≡ b → cond b (Refuse InvalidAdditionalInfo) Accept ≡ Accept → Readable s
+    go : (l : List ℕ) → row (all_in s) ++ l ≡ s → (b : Bool) → ltb 0 (length l) ≡ b → cond b (Err InvalidAdditionalInfo) Ok tt ≡ Ok tt → Readable s
     go l w true e p = never cc
     go [] w false e p = record { records = all_in s; fills = sym w ∙ append-nil (row (all_in s)) }
     go (a ∷ l) w false e p = absurd (omega (arith, ltb-false 0 (length (a ∷ l)) e))
 
-pub readable_passes : (s : List ℕ) → Readable s → verdict (area_check s ∷ []) ≡ Accept
-readable_passes s x = ap (λ (l : List ℕ). cond (ltb 0 (length l)) (Refuse InvalidAdditionalInfo) Accept) (nothing_left s x)
+pub readable_passes : (s : List ℕ) → Readable s → verdict (area_check s ∷ []) ≡ Ok tt
+readable_passes s x = ap (λ (l : List ℕ). cond (ltb 0 (length l)) (Err InvalidAdditionalInfo) (Ok tt)) (nothing_left s x)

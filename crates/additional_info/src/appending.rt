@@ -4,41 +4,40 @@ ghost use Rattle.additional_info.specs.Area.{unfilled};
 ghost use Rattle.additional_info.specs.Appending.{JudgePromise, AppendPromise};
 
 use crate::area;
-use crate::area::CountAnswer;
 use crate::info_type::AdditionalInfoType;
-use wire::{Refusal, Verdict, Written};
+use wire::Refusal;
 
-pub fn append(area: &[u8], info_type: AdditionalInfoType, data: &[u8], buf: &mut [u8]) -> Written
+pub fn append(area: &[u8], info_type: AdditionalInfoType, data: &[u8], buf: &mut [u8]) -> Result<usize, Refusal>
     ensures { AppendPromise area.now info_type «data».now buf.old result buf.new }
 {
     match judge(area, 2 + data.len()) {
-        Verdict::Accept => {
+        Ok(()) => {
             let head = [info_type.to_u8(), data.len() as u8];
             wire::write3(area, &head, data, buf)
         }
-        Verdict::Refuse(why) => Written::Refused(why),
+        Err(why) => Err(why),
     }
 }
 
 // Whether an area is readable, and with so many bytes more behind it fits its length byte.
-pub fn judge(area: &[u8], more: usize) -> Verdict
+pub fn judge(area: &[u8], more: usize) -> Result<(), Refusal>
     ensures { JudgePromise area.now more result }
 {
     if unfilled(area) {
-        return Verdict::Refuse(Refusal::InvalidAdditionalInfo);
+        return Err(Refusal::InvalidAdditionalInfo);
     }
     if too_long(area.len(), more) {
-        return Verdict::Refuse(Refusal::PayloadTooLarge);
+        return Err(Refusal::PayloadTooLarge);
     }
-    Verdict::Accept
+    Ok(())
 }
 
 fn unfilled(area: &[u8]) -> bool
     ensures { result ≡ unfilled area.now }
 {
     match area::count(area) {
-        CountAnswer::Count(_) => false,
-        CountAnswer::Refused(_) => true,
+        Ok(_) => false,
+        Err(_) => true,
     }
 }
 

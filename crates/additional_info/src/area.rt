@@ -5,32 +5,19 @@ ghost use Rattle.additional_info.specs.Area.{stands, taken, at_most, RecordPromi
 use crate::info_type::AdditionalInfoType;
 use wire::{Fault, Refusal};
 
-// The value of a relative timestamp; none for other types, and for timestamps of another length.
-#[derive(Clone, Copy)]
-pub enum Timestamp {
-    Value(u32),
-    None,
-}
-
 // One record: its type, its timestamp, and where its data stands in the area. What remains starts at `end`.
 #[derive(Clone, Copy)]
 pub struct AdditionalInfo {
     pub start: usize,
     pub end: usize,
     pub info_type: AdditionalInfoType,
-    pub timestamp: Timestamp,
+    pub timestamp: Option<u32>,
 }
 
 #[derive(Clone, Copy)]
 pub enum AdditionalInfoAnswer {
     Record(AdditionalInfo),
     None,
-    Refused(Fault),
-}
-
-#[derive(Clone, Copy)]
-pub enum CountAnswer {
-    Count(usize),
     Refused(Fault),
 }
 
@@ -53,17 +40,17 @@ impl AdditionalInfo {
 }
 
 // How many records fill the area.
-pub fn count(area: &[u8]) -> CountAnswer
+pub fn count(area: &[u8]) -> Result<usize, Fault>
     ensures { CountPromise area.now result }
 {
     let all = past(area, area.len());
     if all.at < area.len() {
-        return CountAnswer::Refused(Fault {
+        return Err(Fault {
             why: Refusal::InvalidAdditionalInfo,
             at: all.at,
         });
     }
-    CountAnswer::Count(all.records)
+    Ok(all.records)
 }
 
 // The record behind n others. The whole area has to be readable.
@@ -71,14 +58,14 @@ pub fn nth(area: &[u8], n: usize) -> AdditionalInfoAnswer
     ensures { NthPromise area.now n result }
 {
     match count(area) {
-        CountAnswer::Count(many) => {
+        Ok(many) => {
             if many <= n {
                 return AdditionalInfoAnswer::None;
             }
             let passed = past(area, n);
             AdditionalInfoAnswer::Record(record_at(area, passed.at))
         }
-        CountAnswer::Refused(fault) => AdditionalInfoAnswer::Refused(fault),
+        Err(fault) => AdditionalInfoAnswer::Refused(fault),
     }
 }
 
@@ -165,21 +152,21 @@ fn record_at(area: &[u8], at: usize) -> AdditionalInfo
 }
 
 // Type 4 with two bytes, type 6 with four.
-fn timestamp_of(code: u8, data: &[u8]) -> Timestamp
+fn timestamp_of(code: u8, data: &[u8]) -> Option<u32>
     ensures { TimestampPromise code «data».now result }
 {
     if code == 0x04 {
         if data.len() == 2 {
-            return Timestamp::Value(wire::word_at(data, 0) as u32);
+            return Some(wire::word_at(data, 0) as u32);
         }
-        return Timestamp::None;
+        return None;
     }
     if code == 0x06 {
         if data.len() == 4 {
-            return Timestamp::Value(
+            return Some(
                 wire::word_at(data, 0) as u32 * 65536 + wire::word_at(data, 2) as u32,
             );
         }
     }
-    Timestamp::None
+    None
 }

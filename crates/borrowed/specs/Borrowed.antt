@@ -1,5 +1,5 @@
 -- What a record borrows: the bytes that were parsed, none where the parse refused. Assumes nothing.
-use Rattle.std.specs.Prelude.{ℕ, ◌≡◌, List, []}
+use Rattle.std.specs.Prelude.{ℕ, ◌≡◌, List, [], Ok, Err}
 use Rattle.std.proofs.Common.{arith, sym, ap, ◌∙◌}
 use Rattle.wire.specs.Told.{Told, refused, Check, verdict, judged}
 use Rattle.wire.specs.ToldLaws.{was_accepted, was_refused}
@@ -8,12 +8,11 @@ use Rattle.wire.specs.Parts.{part_of, shown}
 use Rattle.wire.specs.Refusing.{Zeros}
 use Rattle.wire.specs.PartLaws.{part_is}
 use Rattle.wire.specs.declared.refusals.Fault.{Fault}
-use Rattle.wire.specs.declared.refusals.Verdict.{Verdict}
-use Rattle.wire.specs.declared.refusals.Verdict.TheVariants.{Accept, Refuse}
+use Rattle.wire.specs.Told.{Verdict}
 
 abbrev pub borrowed_by : Verdict → List ℕ → List ℕ
-borrowed_by Accept s = s
-borrowed_by (Refuse e) s = []
+borrowed_by (Ok tt) s = s
+borrowed_by (Err e) s = []
 
 -- a parse that answered borrows the bytes; one that refused borrows none
 pub borrowed_all : {o : ℕ} (cs : List Check) (t u : Told) (s : List ℕ) → u.number ≡ 0 → u ≡ at o (judged cs t) → s ≡ borrowed_by (verdict cs) s

@@ -1,5 +1,5 @@
 -- The body of what parsing a datagram borrows is the datagram's body; no second answer. Assumes nothing.
-use Rattle.std.specs.Prelude.{ℕ, ◌≡◌, refl, List, [], length}
+use Rattle.std.specs.Prelude.{ℕ, ◌≡◌, refl, List, [], length, Result, Ok, Err}
 use Rattle.std.proofs.Common.{sym, ap, ◌∙◌}
 use Rattle.wire.specs.Told.{Told, done, refused, viewed, Check, verdict, judged}
 use Rattle.wire.specs.ToldLaws.{same, let_refuse, let_through, was_refused}
@@ -12,48 +12,47 @@ use Rattle.wire.specs.declared.refusals.Fault.{Fault}
 use Rattle.header.specs.Header.{fields, total_in}
 use Rattle.frame.specs.Frame as Frame
 use Rattle.frame.specs.FrameLaws as FrameLaws
-use Rattle.frame.specs.declared.frame.FrameAnswer.{FrameAnswer}
-use Rattle.frame.specs.declared.frame.FrameAnswer.TheVariants.{Frame, Refused}
 use Rattle.borrowed.specs.Borrowed.{borrowed_by, borrowed_all, borrowed_none, empty_part, shows_none}
 use Rattle.borrowed.specs.KnxnetIpFrame.{ParsePromise, view_of, BodyViewPromise, body_of, BodyPromise, BodyInPromise}
 use Rattle.borrowed.specs.declared.knxnet_ip_frame.KnxnetIpFrame.{KnxnetIpFrame}
+use Rattle.frame.specs.declared.frame.FrameFields.{FrameFields}
 
 module _ (s : List ℕ) where
   abbrev cs : List Check
-  cs = Frame.checks (length s) (get fields 0 s)
+  cs = Ok.checks (length s) (get fields 0 s)
 
   abbrev told : Told
   told = done (get fields 0 s)
 
-  body_of_lem : (a : FrameAnswer) (borrowed : List ℕ) → borrowed ≡ borrowed_by (verdict cs) s → Frame.ParsePromise s a → body_of a borrowed ≡ shown s (judged cs (viewed 6 (total_in (get fields 0 s))))
-  body_of_lem (Frame f) borrowed h p =
-      let same = let_through cs told (Frame.told (Frame f)) refl p in
-      ap (body_of (Frame f)) (h ∙ sym (borrowed_all cs told (Frame.told (Frame f)) s refl p))
-      ∙ ap (λ (u : Told). shown s (judged (Frame.checks (length s) u.values) (viewed 6 (total_in u.values)))) same
-  body_of_lem (Refused e) borrowed h p = empty_part borrowed ∙ sym (ap (shown s) (let_refuse cs (viewed 6 (total_in (get fields 0 s))) e.why (was_refused cs told 4 e refl p)) ∙ empty_part s)
+  body_of_lem : (a : Result FrameFields Fault) (borrowed : List ℕ) → borrowed ≡ borrowed_by (verdict cs) s → Ok.ParsePromise s a → body_of a borrowed ≡ shown s (judged cs (viewed 6 (total_in (get fields 0 s))))
+  body_of_lem (Ok f) borrowed h p =
+      let same = let_through cs told (Ok.told (Ok f)) refl p in
+      ap (body_of (Ok f)) (h ∙ sym (borrowed_all cs told (Ok.told (Ok f)) s refl p))
+      ∙ ap (λ (u : Told). shown s (judged (Ok.checks (length s) u.values) (viewed 6 (total_in u.values)))) same
+  body_of_lem (Err e) borrowed h p = empty_part borrowed ∙ sym (ap (shown s) (let_refuse cs (viewed 6 (total_in (get fields 0 s))) e.why (was_refused cs told 4 e refl p)) ∙ empty_part s)
 
 pub body_in : (s : List ℕ) (f : KnxnetIpFrame) (r : List ℕ) → ParsePromise s f → BodyPromise f r → BodyInPromise s r
 body_in s f r p q = q ∙ body_of_lem s f.answer f.«data».now p.0 p.1
 
 -- ---- refused
 
-pub borrows_none : (s : List ℕ) (f : KnxnetIpFrame) (e : Fault) → ParsePromise s f → f.answer ≡ Refused e → f.«data».now ≡ []
-borrows_none s f e p q = p.0 ∙ sym (borrowed_none (cs s) (told s) 4 e s refl (sym (ap Frame.told q) ∙ p.1))
+pub borrows_none : (s : List ℕ) (f : KnxnetIpFrame) (e : Fault) → ParsePromise s f → f.answer ≡ Err e → f.«data».now ≡ []
+borrows_none s f e p q = p.0 ∙ sym (borrowed_none (cs s) (told s) 4 e s refl (sym (ap Ok.told q) ∙ p.1))
 
-pub body-none : (f : KnxnetIpFrame) (e : Fault) (r : List ℕ) → f.answer ≡ Refused e → BodyPromise f r → r ≡ []
-body-none f e r q p = p ∙ ap (λ (a : FrameAnswer). body_of a f.«data».now) q ∙ empty_part f.«data».now
+pub body-none : (f : KnxnetIpFrame) (e : Fault) (r : List ℕ) → f.answer ≡ Err e → BodyPromise f r → r ≡ []
+body-none f e r q p = p ∙ ap (λ (a : Result FrameFields Fault). body_of a f.«data».now) q ∙ empty_part f.«data».now
 
 -- the view of a refused record tells that refusal
-pub view_none : (s : List ℕ) (a : FrameAnswer) (e : Fault) (r : View) → a ≡ Refused e → BodyViewPromise s a r → Parts.told r ≡ refused 0 e
-view_none s a e r q p = p ∙ ap (λ (b : FrameAnswer). view_of b s) q
+pub view_none : (s : List ℕ) (a : Result FrameFields Fault) (e : Fault) (r : Result View Fault) → a ≡ Err e → BodyViewPromise s a r → Parts.told r ≡ refused 0 e
+view_none s a e r q p = p ∙ ap (λ (b : Result FrameFields Fault). view_of b s) q
 
 -- a view that is refused tells its number and no more
-pub view_refusing : (s : List ℕ) (a : FrameAnswer) (r : View) → BodyViewPromise s a r → Refusing (Parts.told r)
-view_refusing s (Frame f) r p = judged-refusing (Frame.record_checks f (length s)) (viewed 6 f.header.total_length) (Parts.told r) refl p
-view_refusing s (Refused e) r p = λ _. rw p (refused-zeros 0 e)
+pub view_refusing : (s : List ℕ) (a : Result FrameFields Fault) (r : Result View Fault) → BodyViewPromise s a r → Refusing (Parts.told r)
+view_refusing s (Ok f) r p = judged-refusing (Ok.record_checks f (length s)) (viewed 6 f.header.total_length) (Parts.told r) refl p
+view_refusing s (Err e) r p = λ _. rw p (refused-zeros 0 e)
 
 -- and the part of such a view is empty
-pub body_refused : (f : KnxnetIpFrame) (v : View) (r : List ℕ) → BodyViewPromise f.«data».now f.answer v → BodyPromise f r → (v.number ≡ 0 → ⊥) → r ≡ []
+pub body_refused : (f : KnxnetIpFrame) (v : Result View Fault) (r : List ℕ) → BodyViewPromise f.«data».now f.answer v → BodyPromise f r → (v.number ≡ 0 → ⊥) → r ≡ []
 body_refused f v r p q n = q ∙ ap (shown f.«data».now) (sym p) ∙ shows_none f.«data».now (Parts.told v) (view_refusing f.«data».now f.answer v p n)
 
 -- ---- no second answer: a part is settled by its bytes

@@ -1,5 +1,5 @@
 -- `LDataFrame`: the application data beside what parsing the frame answered, over the definitions that the field record's functions promise, and over how L counts. Assumes nothing.
-use Rattle.std.specs.Prelude.{ℕ, ◌+◌, ◌-◌, ◌≡◌, List, length, drop}
+use Rattle.std.specs.Prelude.{ℕ, ◌+◌, ◌-◌, ◌≡◌, List, length, drop, Result, Ok, Err}
 use Rattle.wire.specs.Told.{Told, refused, viewed, Check, judged}
 use Rattle.wire.specs.Places.{located}
 use Rattle.wire.specs.Layout.{get}
@@ -12,9 +12,8 @@ use Rattle.ldata.specs.LData.{fields, length_in, tpci_in, data_byte}
 use Rattle.ldata.specs.LData as LData
 use Rattle.ldata.specs.declared.count.Counting.{Counting}
 use Rattle.ldata.specs.declared.ldata.LDataFields.{LDataFields}
-use Rattle.ldata.specs.declared.ldata.LDataAnswer.{LDataAnswer}
-use Rattle.ldata.specs.declared.ldata.LDataAnswer.TheVariants.{Frame, Refused}
 use Rattle.borrowed.specs.declared.ldata_frame.LDataFrame.{LDataFrame}
+use Rattle.wire.specs.declared.refusals.Fault.{Fault}
 
 -- the data of an L_Data frame: behind the APCI, or behind a control packet's TPCI, to the end that L says; none where it is refused
 abbrev pub data_in_count : Count → List ℕ → List ℕ
@@ -32,16 +31,16 @@ borrowed_by01 C f s = judged (borrowed_checks C f (length s)) (viewed 0 (C.end_o
 abbrev pub borrowed_where : Count → LDataFields → List ℕ → Told
 borrowed_where C f s = located (borrowed_checks C f (length s)) LData.length_offsets (borrowed_by01 C f s)
 
-abbrev pub BorrowedViewPromise : Counting → List ℕ → LDataFields → View → Type 0
+abbrev pub BorrowedViewPromise : Counting → List ℕ → LDataFields → Result View Fault → Type 0
 BorrowedViewPromise c s f r = Parts.told r ≡ borrowed_where (count_by c) f s
 
 -- where the data stands in the bytes that a record borrows; of a refused one the refusal
-abbrev pub view_in : Count → LDataAnswer → List ℕ → Told
-view_in C (Frame f) s = borrowed_where C f s
-view_in C (Refused e) s = refused 0 e
+abbrev pub view_in : Count → Result LDataFields Fault → List ℕ → Told
+view_in C (Ok f) s = borrowed_where C f s
+view_in C (Err e) s = refused 0 e
 
 -- and the part there
-abbrev pub data_of_in : Count → LDataAnswer → List ℕ → List ℕ
+abbrev pub data_of_in : Count → Result LDataFields Fault → List ℕ → List ℕ
 data_of_in C a s = shown s (view_in C a s)
 
 -- ---- what the functions promise, with the crate's count
@@ -55,16 +54,16 @@ DataInPromise s r = r ≡ data_in s
 abbrev pub ParsePromise : List ℕ → LDataFrame → Type 0
 ParsePromise s r = DataInPromise s r.«data».now × LData.ParsePromise s r.answer
 
-abbrev pub view_of : LDataAnswer → List ℕ → Told
+abbrev pub view_of : Result LDataFields Fault → List ℕ → Told
 view_of a s = view_in crate_count a s
 
-abbrev pub DataViewPromise : List ℕ → LDataAnswer → View → Type 0
+abbrev pub DataViewPromise : List ℕ → Result LDataFields Fault → Result View Fault → Type 0
 DataViewPromise s a r = Parts.told r ≡ view_of a s
 
-abbrev pub data_of : LDataAnswer → List ℕ → List ℕ
+abbrev pub data_of : Result LDataFields Fault → List ℕ → List ℕ
 data_of a s = data_of_in crate_count a s
 
-abbrev pub DataOfPromise : List ℕ → LDataAnswer → List ℕ → Type 0
+abbrev pub DataOfPromise : List ℕ → Result LDataFields Fault → List ℕ → Type 0
 DataOfPromise s a r = r ≡ data_of a s
 
 abbrev pub DataPromise : LDataFrame → List ℕ → Type 0
@@ -78,10 +77,10 @@ DataInCountPromise c s r = r ≡ data_in_count (count_by c) s
 abbrev pub ParseInPromise : Counting → List ℕ → LDataFrame → Type 0
 ParseInPromise c s r = DataInCountPromise c s r.«data».now × LData.ParseInPromise c s r.answer
 
-abbrev pub DataViewInPromise : Counting → List ℕ → LDataAnswer → View → Type 0
+abbrev pub DataViewInPromise : Counting → List ℕ → Result LDataFields Fault → Result View Fault → Type 0
 DataViewInPromise c s a r = Parts.told r ≡ view_in (count_by c) a s
 
-abbrev pub DataOfInPromise : Counting → List ℕ → LDataAnswer → List ℕ → Type 0
+abbrev pub DataOfInPromise : Counting → List ℕ → Result LDataFields Fault → List ℕ → Type 0
 DataOfInPromise c s a r = r ≡ data_of_in (count_by c) a s
 
 abbrev pub FrameDataInPromise : Counting → LDataFrame → List ℕ → Type 0

@@ -1,14 +1,14 @@
 // A frame that borrows its bytes.
 ghost use Rattle.borrowed.specs.KnxnetIpFrame.{BorrowedPromise, ParsePromise, BodyViewPromise, BodyOfPromise, BodyPromise, BodyInPromise};
 
-use frame::{FrameAnswer, FrameFields};
+use frame::FrameFields;
 use wire::View;
 
 // The bytes of the datagram, none where it is refused, and what parsing it answered.
 #[derive(Clone, Copy)]
 pub struct KnxnetIpFrame<'a> {
     pub data: &'a [u8],
-    pub answer: FrameAnswer,
+    pub answer: Result<FrameFields, Fault>,
 }
 
 impl<'a> KnxnetIpFrame<'a> {
@@ -36,12 +36,12 @@ pub fn body_in(datagram: &[u8]) -> &[u8]
 }
 
 // Where the body stands in what a frame borrows; a frame that no parse made is checked here.
-pub fn body_view(data: &[u8], answer: FrameAnswer) -> View
+pub fn body_view(data: &[u8], answer: Result<FrameFields, Fault>) -> View
     ensures { BodyViewPromise «data».now answer result }
 {
     match answer {
-        FrameAnswer::Frame(frame) => frame.body(data),
-        FrameAnswer::Refused(fault) => View::refused(fault),
+        Ok(frame) => frame.body(data),
+        Err(fault) => View::refused(fault),
     }
 }
 
@@ -49,12 +49,12 @@ fn borrowed(datagram: &[u8]) -> &[u8]
     ensures { BorrowedPromise datagram.now result.now }
 {
     match FrameFields::parse(datagram) {
-        FrameAnswer::Frame(_) => datagram,
-        FrameAnswer::Refused(_) => wire::part(datagram, 0, 0),
+        Ok(_) => datagram,
+        Err(_) => wire::part(datagram, 0, 0),
     }
 }
 
-fn body_of(data: &[u8], answer: FrameAnswer) -> &[u8]
+fn body_of(data: &[u8], answer: Result<FrameFields, Fault>) -> &[u8]
     ensures { BodyOfPromise «data».now answer result.now }
 {
     let view = body_view(data, answer);

@@ -1,14 +1,14 @@
 // An L_Data frame that borrows its data, in the crate's count or in the one that a call is given.
 ghost use Rattle.borrowed.specs.LDataFrame.{ParsePromise, ParseInPromise, DataPromise, FrameDataInPromise, DataInPromise, DataInCountPromise, DataViewPromise, DataViewInPromise, BorrowedViewPromise, DataOfInPromise};
 
-use ldata::{Counting, LDataAnswer, LDataFields};
+use ldata::{Counting, LDataFields};
 use wire::{Fault, Refusal, View};
 
 // The application data, none where the frame is refused, and what parsing it answered.
 #[derive(Clone, Copy)]
 pub struct LDataFrame<'a> {
     pub data: &'a [u8],
-    pub answer: LDataAnswer,
+    pub answer: Result<LDataFields, Fault>,
 }
 
 impl<'a> LDataFrame<'a> {
@@ -56,18 +56,18 @@ pub fn data_in_count(counting: Counting, bytes: &[u8]) -> &[u8]
 }
 
 // Where the data stands in what a frame borrows; a frame that no parse made is checked here.
-pub fn data_view(data: &[u8], answer: LDataAnswer) -> View
+pub fn data_view(data: &[u8], answer: Result<LDataFields, Fault>) -> View
     ensures { DataViewPromise «data».now answer result }
 {
     data_view_in(Counting::Crate, data, answer)
 }
 
-pub fn data_view_in(counting: Counting, data: &[u8], answer: LDataAnswer) -> View
+pub fn data_view_in(counting: Counting, data: &[u8], answer: Result<LDataFields, Fault>) -> View
     ensures { DataViewInPromise counting «data».now answer result }
 {
     match answer {
-        LDataAnswer::Frame(frame) => borrowed_view(counting, data, frame),
-        LDataAnswer::Refused(fault) => View::refused(fault),
+        Ok(frame) => borrowed_view(counting, data, frame),
+        Err(fault) => View::refused(fault),
     }
 }
 
@@ -97,7 +97,7 @@ fn borrowed_view(counting: Counting, data: &[u8], frame: LDataFields) -> View
     View::refused(fault)
 }
 
-fn data_of(counting: Counting, data: &[u8], answer: LDataAnswer) -> &[u8]
+fn data_of(counting: Counting, data: &[u8], answer: Result<LDataFields, Fault>) -> &[u8]
     ensures { DataOfInPromise counting «data».now answer result.now }
 {
     let view = data_view_in(counting, data, answer);
@@ -108,7 +108,7 @@ fn borrowed(counting: Counting, bytes: &[u8]) -> &[u8]
     ensures { DataInCountPromise counting bytes.now result.now }
 {
     match LDataFields::parse_in(counting, bytes) {
-        LDataAnswer::Frame(frame) => frame.data_part_in(counting, bytes),
-        LDataAnswer::Refused(_) => wire::part(bytes, 0, 0),
+        Ok(frame) => frame.data_part_in(counting, bytes),
+        Err(_) => wire::part(bytes, 0, 0),
     }
 }

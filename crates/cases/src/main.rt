@@ -2,13 +2,13 @@
 // Then an area of a quarter of a million records: no proof speaks of the stack that reading it takes. A refusal of the area is shown with its offset.
 #![tactic(auto)]
 
-use additional_info::{AdditionalInfoAnswer, CountAnswer};
+use additional_info::AdditionalInfoAnswer;
 use constants::ServiceType;
 use frame::FrameBuilder;
-use header::{HeaderAnswer, KnxnetIpHeader};
+use header::KnxnetIpHeader;
 use std::env::{Env, FillError};
 use tunnelling::{ConnectionHeader, TunnelingRequest};
-use wire::{Fault, Written};
+use wire::Fault;
 
 // A line that cannot be written is left out, and the next one is tried.
 fn row(rt: &impl Print, name: &str, number: u8, size: usize) {
@@ -26,17 +26,17 @@ fn refused(rt: &impl Print, name: &str, fault: Fault) {
     let _ = println!(rt; "{name}: {number} at {at}");
 }
 
-fn written(rt: &impl Print, name: &str, answer: Written) {
+fn written(rt: &impl Print, name: &str, answer: Result<usize, Refusal>) {
     match answer {
-        Written::Bytes(size) => row(rt, name, 0, size),
-        Written::Refused(why) => row(rt, name, why.number(), 0),
+        Ok(size) => row(rt, name, 0, size),
+        Err(why) => row(rt, name, why.number(), 0),
     }
 }
 
 fn header(rt: &impl Print, name: &str, body_length: usize) {
     match KnxnetIpHeader::new(ServiceType::TunnellingRequest, body_length) {
-        HeaderAnswer::Header(made) => row(rt, name, 0, made.total_length as usize),
-        HeaderAnswer::Refused(fault) => {
+        Ok(made) => row(rt, name, 0, made.total_length as usize),
+        Err(fault) => {
             let why = fault.why;
             row(rt, name, why.number(), 0);
         }
@@ -72,8 +72,8 @@ fn builders(rt: &impl Print, bytes: &[u8], buf: &mut [u8]) {
 
 fn count(rt: &impl Print, name: &str, area: &[u8]) {
     match additional_info::count(area) {
-        CountAnswer::Count(many) => row(rt, name, 0, many),
-        CountAnswer::Refused(fault) => refused(rt, name, fault),
+        Ok(many) => row(rt, name, 0, many),
+        Err(fault) => refused(rt, name, fault),
     }
 }
 

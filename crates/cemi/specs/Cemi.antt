@@ -1,5 +1,5 @@
 -- 01, "cEMI": message code, additional length, the additional information, and what the code says the rest is; 02, 1/13: the area, and a whole frame; 2/13: L_Data in the standard count. Assumes nothing.
-use Rattle.std.specs.Prelude.{ℕ, ◌+◌, ◌≡◌, refl, Bool, true, false, not, List, [], ◌∷◌, ◌++◌, length, get_or, ltb}
+use Rattle.std.specs.Prelude.{ℕ, ◌+◌, ◌≡◌, refl, Bool, true, false, not, List, [], ◌∷◌, ◌++◌, length, get_or, ltb, Result, Ok, Err}
 use Rattle.wire.specs.Told.{Told, done, viewed, refused, Check, ◌⇒◌, judged}
 use Rattle.wire.specs.Places.{located, standing, moved}
 use Rattle.wire.specs.Coding.{check}
@@ -9,8 +9,7 @@ use Rattle.wire.specs.Format.{Format, checks_of, offsets_of, found_in, read_by01
 use Rattle.wire.specs.Parts.{part_of, shown}
 use Rattle.wire.specs.Parts as Parts
 use Rattle.wire.specs.declared.refusals.Refusal.TheVariants.{InvalidFrame, InvalidMessageCode}
-use Rattle.wire.specs.declared.refusals.Standing.{Standing}
-use Rattle.wire.specs.declared.refusals.Written.{Written}
+use Rattle.wire.specs.Places.{Standing}
 use Rattle.wire.specs.declared.parts.View.{View}
 use Rattle.constants.specs.MessageCodes.{message_codes, code_of}
 use Rattle.constants.specs.declared.message_codes.CEMIMessageCode.{CEMIMessageCode}
@@ -19,11 +18,11 @@ use Rattle.ldata.specs.Count.{Count, crate_count, count_by}
 use Rattle.ldata.specs.LData.{values_in, byte_checks}
 use Rattle.ldata.specs.LData as LData
 use Rattle.ldata.specs.declared.count.Counting.{Counting}
-use Rattle.ldata.specs.declared.ldata.LDataAnswer.{LDataAnswer}
 use Rattle.additional_info.specs.Appending.{area_checks}
 use Rattle.cemi.specs.declared.CEMIFrame.{CEMIFrame}
-use Rattle.cemi.specs.declared.CEMIAnswer.{CEMIAnswer}
-use Rattle.cemi.specs.declared.InfoLengthAnswer.{InfoLengthAnswer}
+use Rattle.ldata.specs.declared.ldata.LDataFields.{LDataFields}
+use Rattle.wire.specs.declared.refusals.Fault.{Fault}
+use Rattle.wire.specs.declared.refusals.Refusal.{Refusal}
 
 -- message code, and the length of the additional information
 abbrev pub fields : List Field
@@ -62,9 +61,9 @@ offsets s = offsets_of format (length s)
 abbrev pub StandsPromise : List ℕ → Standing → Type 0
 StandsPromise s r = r ≡ standing (checks s) (offsets s)
 
-abbrev pub told : CEMIAnswer → Told
-told (CEMIAnswer.Frame f) = done (code_of f.message_code ∷ [])
-told (CEMIAnswer.Refused e) = refused 1 e
+abbrev pub told : Result CEMIFrame Fault → Told
+told (Ok f) = done (code_of f.message_code ∷ [])
+told (Err e) = refused 1 e
 
 abbrev pub parse_by01 : List ℕ → Told
 parse_by01 s = read_by01 format s
@@ -73,7 +72,7 @@ parse_by01 s = read_by01 format s
 abbrev pub parse_where : List ℕ → Told
 parse_where s = found_in format s (parse_by01 s)
 
-abbrev pub ParsePromise : List ℕ → CEMIAnswer → Type 0
+abbrev pub ParsePromise : List ℕ → Result CEMIFrame Fault → Type 0
 ParsePromise s r = told r ≡ parse_where s
 
 abbrev pub MessageCodePromise : CEMIFrame → CEMIMessageCode → Type 0
@@ -81,11 +80,11 @@ MessageCodePromise f r = r ≡ f.message_code
 
 -- ---- accessors that read through the slice repeat those checks, on the slice's own bytes
 
-abbrev pub told_length : InfoLengthAnswer → Told
-told_length (InfoLengthAnswer.Length n) = done (n ∷ [])
-told_length (InfoLengthAnswer.Refused e) = refused 1 e
+abbrev pub told_length : Result ℕ Fault → Told
+told_length (Ok n) = done (n ∷ [])
+told_length (Err e) = refused 1 e
 
-abbrev pub InfoLengthPromise : List ℕ → InfoLengthAnswer → Type 0
+abbrev pub InfoLengthPromise : List ℕ → Result ℕ Fault → Type 0
 InfoLengthPromise s r = told_length r ≡ found_in format s (judged (checks s) (done (info_length s ∷ [])))
 
 -- input shorter than 2 + additional length (2)
@@ -102,7 +101,7 @@ service_info_by01 s = judged (checks s ++ info_check s ∷ []) (viewed (2 + info
 abbrev pub service_info_where : List ℕ → Told
 service_info_where s = located (checks s ++ info_check s ∷ []) (offsets s ++ info_offset ∷ []) (service_info_by01 s)
 
-abbrev pub ServiceInfoPromise : List ℕ → View → Type 0
+abbrev pub ServiceInfoPromise : List ℕ → Result View Fault → Type 0
 ServiceInfoPromise s r = Parts.told r ≡ service_info_where s
 
 abbrev pub ServiceInfoPartPromise : List ℕ → List ℕ → Type 0
@@ -152,11 +151,11 @@ ldata_found_in C f s t = located (checks s ++ ldata_checks f s ++ byte_checks C 
 abbrev pub as_ldata_where : Count → CEMIFrame → List ℕ → Told
 as_ldata_where C f s = ldata_found_in C f s (as_ldata_in C f s)
 
-abbrev pub AsLDataPromise : CEMIFrame → List ℕ → LDataAnswer → Type 0
+abbrev pub AsLDataPromise : CEMIFrame → List ℕ → Result LDataFields Fault → Type 0
 AsLDataPromise f s r = LData.told r ≡ ldata_found_in crate_count f s (as_ldata_by01 f s)
 
 -- in the count that it is given
-abbrev pub AsLDataInPromise : Counting → CEMIFrame → List ℕ → LDataAnswer → Type 0
+abbrev pub AsLDataInPromise : Counting → CEMIFrame → List ℕ → Result LDataFields Fault → Type 0
 AsLDataInPromise c f s r = LData.told r ≡ as_ldata_where (count_by c) f s
 
 -- ---- 02, 1/13: the additional information
@@ -168,7 +167,7 @@ info_by02 s = judged (checks s ++ info_check s ∷ []) (viewed 2 (2 + info_lengt
 abbrev pub info_where : List ℕ → Told
 info_where s = located (checks s ++ info_check s ∷ []) (offsets s ++ info_offset ∷ []) (info_by02 s)
 
-abbrev pub InfoPromise : List ℕ → View → Type 0
+abbrev pub InfoPromise : List ℕ → Result View Fault → Type 0
 InfoPromise s r = Parts.told r ≡ info_where s
 
 abbrev pub InfoPartPromise : List ℕ → List ℕ → Type 0
@@ -182,5 +181,5 @@ layout code area rest = put fields (code ∷ length area ∷ []) ++ area ++ rest
 abbrev pub build_checks : List ℕ → ℕ → ℕ → List Check
 build_checks area n m = area_checks area 0 ++ room (2 + length area + n) m ∷ []
 
-abbrev pub BuildPromise : CEMIFrame → List ℕ → List ℕ → List ℕ → Written → List ℕ → Type 0
+abbrev pub BuildPromise : CEMIFrame → List ℕ → List ℕ → List ℕ → Result ℕ Refusal → List ℕ → Type 0
 BuildPromise f area rest b r after = Writes (build_checks area (length rest) (length b)) (layout (code_of f.message_code) area rest) b r after

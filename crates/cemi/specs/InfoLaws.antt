@@ -1,5 +1,5 @@
 -- 02, 1/13: the additional information ends where the service information starts; what is built is parsed back, what is taken apart is laid out again; and no second answer. Assumes nothing.
-use Rattle.std.specs.Prelude.{ℕ, ◌+◌, ◌-◌, ◌≤◌, ◌≡◌, refl, List, [], ◌∷◌, ◌++◌, length, take, drop, ltb}
+use Rattle.std.specs.Prelude.{ℕ, ◌+◌, ◌-◌, ◌≤◌, ◌≡◌, refl, List, [], ◌∷◌, ◌++◌, length, take, drop, ltb, Result, Ok, Err}
 use Rattle.std.proofs.Common.{arith, sym, ap, subst, ◌∙◌, append-nil, take-append-drop, take_at, drop-drop, length-take-le, le-ltb, ltb-false}
 use Rattle.wire.specs.Clash.{never}
 use Rattle.wire.specs.Told.{Told, done, viewed, Check, verdict, answer, judged}
@@ -14,22 +14,20 @@ use Rattle.wire.specs.Parts as Parts
 use Rattle.wire.specs.PartLaws as PartLaws
 use Rattle.wire.specs.declared.parts.View.{View}
 use Rattle.wire.specs.declared.refusals.Refusal.TheVariants.{InvalidFrame}
-use Rattle.wire.specs.declared.refusals.Verdict.{Verdict}
-use Rattle.wire.specs.declared.refusals.Verdict.TheVariants.{Accept, Refuse}
-use Rattle.wire.specs.declared.refusals.Written.{Written}
-use Rattle.wire.specs.declared.refusals.Written.TheVariants.{Bytes}
+use Rattle.wire.specs.Told.{Verdict}
 use Rattle.constants.specs.MessageCodes.{code_of}
 use Rattle.constants.specs.MessageCodeLaws as MessageCodeLaws
 use Rattle.additional_info.specs.Appending.{area_checks}
 use Rattle.cemi.specs.Cemi.{code_in, info_length, checks, offsets, told, parse_where, info_check, info_offset, service_info_by01, service_info_where, ServiceInfoPromise, info_by02, info_where, InfoPromise, layout, build_checks, BuildPromise}
 use Rattle.cemi.specs.CemiLaws.{long_enough}
 use Rattle.cemi.specs.declared.CEMIFrame.{CEMIFrame}
-use Rattle.cemi.specs.declared.CEMIAnswer.TheVariants as CEMIAnswer
+use Rattle.wire.specs.declared.refusals.Refusal.{Refusal}
+use Rattle.wire.specs.declared.refusals.Fault.{Fault}
 
 -- ---- the additional information
 
 -- it ends where the service information starts, and is refused as that is
-pub before_service : (s : List ℕ) (v : View) → ServiceInfoPromise s v → v.number ≡ 0 → InfoPromise s (record { number = 0; start = 2; end = v.start; offset = 0 })
+pub before_service : (s : List ℕ) (v : Result View Fault) → ServiceInfoPromise s v → v.number ≡ 0 → InfoPromise s (record { number = 0; start = 2; end = v.start; offset = 0 })
 before_service s v p z =
     let cs : List Check = checks s ++ info_check s ∷ [] in
     let behind : Told = viewed (2 + info_length s) (length s) in
@@ -37,17 +35,17 @@ before_service s v p z =
     ap (λ (e : ℕ). viewed 2 e) (ap (λ (t : Told). t.start) (let_through cs behind (Parts.told v) z p))
     ∙ sym (located_pass cs (offsets s ++ info_offset ∷ []) here refl refl (was_accepted cs behind (Parts.told v) z p))
 
-pub no_service : (s : List ℕ) (v : View) → ServiceInfoPromise s v → (v.number ≡ 0 → ⊥) → InfoPromise s v
+pub no_service : (s : List ℕ) (v : Result View Fault) → ServiceInfoPromise s v → (v.number ≡ 0 → ⊥) → InfoPromise s v
 no_service s v p some = go (verdict (checks s ++ info_check s ∷ [])) p
   where
     go : (w : Verdict) → Parts.told v ≡ located (checks s ++ info_check s ∷ []) (offsets s ++ info_offset ∷ []) (answer w (viewed (2 + info_length s) (length s)))
         → Parts.told v ≡ located (checks s ++ info_check s ∷ []) (offsets s ++ info_offset ∷ []) (answer w (viewed 2 (2 + info_length s)))
-    go Accept q = absurd (some (ap (λ (t : Told). t.number) q))
-    go (Refuse e) q = q
+    go (Ok tt) q = absurd (some (ap (λ (t : Told). t.number) q))
+    go (Err e) q = q
 
 -- three pieces that were written are the head, the area and the rest
-pub piece_by_piece : (f : CEMIFrame) (area rest head b : List ℕ) (r : Written) (after : List ℕ)
-    → head ≡ code_of f.message_code ∷ length area ∷ [] → verdict (area_checks area 0) ≡ Accept → Writing.Write3Promise head area rest b r after → BuildPromise f area rest b r after
+pub piece_by_piece : (f : CEMIFrame) (area rest head b : List ℕ) (r : Result ℕ Refusal) (after : List ℕ)
+    → head ≡ code_of f.message_code ∷ length area ∷ [] → verdict (area_checks area 0) ≡ Ok tt → Writing.Write3Promise head area rest b r after → BuildPromise f area rest b r after
 piece_by_piece f area rest head b r after e q p =
     let code : ℕ = code_of f.message_code in
     WritingLaws.pieces (area_checks area 0) head area rest (layout code area rest) b (2 + length area + length rest) r after q (ap (λ (l : List ℕ). l ++ area ++ rest) e) (length_three (code ∷ length area ∷ []) area rest) p
@@ -55,21 +53,21 @@ piece_by_piece f area rest head b r after e q p =
 -- built, then parsed, whatever the rest of the buffer held: the code, the area and the rest come back
 pub record Built (f : CEMIFrame) (area rest w : List ℕ) : Type 0 where
   pub bytes : w ≡ layout (code_of f.message_code) area rest
-  pub code_back : parse_where w ≡ told (CEMIAnswer.Frame f)
+  pub code_back : parse_where w ≡ told (Ok f)
   pub area_view : info_where w ≡ viewed 2 (2 + length area)
   pub area_back : shown w (info_by02 w) ≡ area
   pub rest_view : service_info_where w ≡ viewed (2 + length area) (length w)
   pub rest_back : shown w (service_info_by01 w) ≡ rest
 
-pub built : (f : CEMIFrame) (area rest b : List ℕ) (n : ℕ) (after : List ℕ) → BuildPromise f area rest b (Bytes n) after → Built f area rest (take n after)
+pub built : (f : CEMIFrame) (area rest b : List ℕ) (n : ℕ) (after : List ℕ) → BuildPromise f area rest b (Ok n) after → Built f area rest (take n after)
 built f area rest b n after p =
     let code : ℕ = code_of f.message_code in
     let w : List ℕ = layout code area rest in
     let o = WritingLaws.wrote (build_checks area (length rest) (length b)) w b n after p in
     let e : take n after ≡ w = ap (take n) o.bytes ∙ take_at w (drop (length w) b) n (sym o.count) in
     let long : length w ≡ 2 + length area + length rest = length_three (code ∷ length area ∷ []) area rest in
-    let known : verdict (checks w) ≡ Accept = simp (le-ltb (length w) 2 (omega arith), MessageCodeLaws.known f.message_code) in
-    let all : verdict (checks w ++ info_check w ∷ []) ≡ Accept = goes_on (checks w) (info_check w ∷ []) known ∙ long_enough w (length area) refl (omega arith) in
+    let known : verdict (checks w) ≡ Ok tt = simp (le-ltb (length w) 2 (omega arith), MessageCodeLaws.known f.message_code) in
+    let all : verdict (checks w ++ info_check w ∷ []) ≡ Ok tt = goes_on (checks w) (info_check w ∷ []) known ∙ long_enough w (length area) refl (omega arith) in
     let passes : (t : Told) → t.offset ≡ 0 → located (checks w ++ info_check w ∷ []) (offsets w ++ info_offset ∷ []) (judged (checks w ++ info_check w ∷ []) t) ≡ t = λ t z. located_pass (checks w ++ info_check w ∷ []) (offsets w ++ info_offset ∷ []) t refl z all in
     let area-is : info_where w ≡ viewed 2 (2 + length area) = passes (viewed 2 (2 + length area)) refl in
     let rest_is : service_info_where w ≡ viewed (2 + length area) (length w) = passes (viewed (2 + length area) (length w)) refl in
@@ -85,7 +83,7 @@ built f area rest b n after p =
     subst (Built f area rest) (sym e) made
 
 -- a frame whose service information was found, taken apart, is laid out from its parts
-pub taken_apart : (s : List ℕ) → verdict (checks s ++ info_check s ∷ []) ≡ Accept → layout (code_in s) (shown s (info_by02 s)) (shown s (service_info_by01 s)) ≡ s
+pub taken_apart : (s : List ℕ) → verdict (checks s ++ info_check s ∷ []) ≡ Ok tt → layout (code_in s) (shown s (info_by02 s)) (shown s (service_info_by01 s)) ≡ s
 taken_apart [] q = never cc
 taken_apart (a ∷ []) q = never cc
 taken_apart (a ∷ n ∷ r) q =
@@ -101,9 +99,9 @@ taken_apart (a ∷ n ∷ r) q =
 
 -- ---- no second answer
 
-pub info_one : (s : List ℕ) (r q : View) → InfoPromise s r → InfoPromise s q → r ≡ q
+pub info_one : (s : List ℕ) (r q : Result View Fault) → InfoPromise s r → InfoPromise s q → r ≡ q
 info_one s r q a b = PartLaws.told_one r q (same a b)
 
-pub build_one : (f : CEMIFrame) (area rest b : List ℕ) (r q : Written) (after later : List ℕ)
+pub build_one : (f : CEMIFrame) (area rest b : List ℕ) (r q : Result ℕ Refusal) (after later : List ℕ)
     → BuildPromise f area rest b r after → BuildPromise f area rest b q later → (r ≡ q) × (after ≡ later)
 build_one f area rest b = WritingLaws.writes_one (build_checks area (length rest) (length b)) (layout (code_of f.message_code) area rest) b

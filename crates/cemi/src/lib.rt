@@ -3,44 +3,32 @@
 
 ghost use Rattle.cemi.specs.Cemi.{ParsePromise, StandsPromise, MessageCodePromise, InfoLengthPromise, ServiceInfoPromise, ServiceInfoPartPromise, AsLDataPromise, AsLDataInPromise, IsLDataPromise, InfoPromise, InfoPartPromise, BuildPromise};
 
-use constants::{CEMIMessageCode, CEMIMessageCodeAnswer};
-use ldata::{Counting, LDataAnswer, LDataFields};
-use wire::{Fault, Refusal, Standing, Verdict, View, Written};
+use constants::CEMIMessageCode;
+use ldata::{Counting, LDataFields};
+use wire::{Fault, Refusal, View};
 
 #[derive(Clone, Copy)]
 pub struct CEMIFrame {
     pub message_code: CEMIMessageCode,
 }
 
-#[derive(Clone, Copy)]
-pub enum CEMIAnswer {
-    Frame(CEMIFrame),
-    Refused(Fault),
-}
-
-#[derive(Clone, Copy)]
-pub enum InfoLengthAnswer {
-    Length(u8),
-    Refused(Fault),
-}
-
 impl CEMIFrame {
     pub const MIN_SIZE: usize = 2;
 
-    pub fn parse(data: &[u8]) -> CEMIAnswer
+    pub fn parse(data: &[u8]) -> Result<CEMIFrame, Fault>
         ensures { ParsePromise «data».now result }
     {
         if data.len() < CEMIFrame::MIN_SIZE {
-            return CEMIAnswer::Refused(Fault {
+            return Err(Fault {
                 why: Refusal::BufferTooSmall,
                 at: data.len(),
             });
         }
         match CEMIMessageCode::from_u8(data[0]) {
-            CEMIMessageCodeAnswer::Code(message_code) => CEMIAnswer::Frame(CEMIFrame {
+            Ok(message_code) => Ok(CEMIFrame {
                 message_code,
             }),
-            CEMIMessageCodeAnswer::Refused(fault) => CEMIAnswer::Refused(fault),
+            Err(fault) => Err(fault),
         }
     }
 
@@ -50,12 +38,12 @@ impl CEMIFrame {
         self.message_code
     }
 
-    pub fn additional_info_length(self, data: &[u8]) -> InfoLengthAnswer
+    pub fn additional_info_length(self, data: &[u8]) -> Result<u8, Fault>
         ensures { InfoLengthPromise «data».now result }
     {
         match stands(data) {
-            Standing::Stands => InfoLengthAnswer::Length(wire::byte_at(data, 1)),
-            Standing::Falls(fault) => InfoLengthAnswer::Refused(fault),
+            Ok(()) => Ok(wire::byte_at(data, 1)),
+            Err(fault) => Err(fault),
         }
     }
 
@@ -64,7 +52,7 @@ impl CEMIFrame {
         ensures { ServiceInfoPromise «data».now result }
     {
         match stands(data) {
-            Standing::Stands => {
+            Ok(()) => {
                 let start = 2 + wire::byte_at(data, 1) as usize;
                 if data.len() < start {
                     return View::refused(Fault {
@@ -79,7 +67,7 @@ impl CEMIFrame {
                     offset: 0,
                 }
             }
-            Standing::Falls(fault) => View::refused(fault),
+            Err(fault) => View::refused(fault),
         }
     }
 
@@ -92,44 +80,44 @@ impl CEMIFrame {
     }
 
     // In the crate's count, as in the Rust.
-    pub fn as_ldata(self, data: &[u8]) -> LDataAnswer
+    pub fn as_ldata(self, data: &[u8]) -> Result<LDataFields, Fault>
         ensures { AsLDataPromise self «data».now result }
     {
         self.as_ldata_in(Counting::Crate, data)
     }
 
     // The field decides whether it is L_Data, as in the Rust, and before the length is looked at.
-    pub fn as_ldata_in(self, counting: Counting, data: &[u8]) -> LDataAnswer
+    pub fn as_ldata_in(self, counting: Counting, data: &[u8]) -> Result<LDataFields, Fault>
         ensures { AsLDataInPromise counting self «data».now result }
     {
         match stands(data) {
-            Standing::Stands => {
+            Ok(()) => {
                 if !self.is_ldata() {
-                    return LDataAnswer::Refused(Fault {
+                    return Err(Fault {
                         why: Refusal::InvalidMessageCode,
                         at: 0,
                     });
                 }
                 let start = 2 + wire::byte_at(data, 1) as usize;
                 if data.len() < start {
-                    return LDataAnswer::Refused(Fault {
+                    return Err(Fault {
                         why: Refusal::InvalidFrame,
                         at: 1,
                     });
                 }
                 let answer = LDataFields::parse_in(counting, wire::part(data, start, data.len()));
                 match answer {
-                    LDataAnswer::Frame(_) => answer,
-                    LDataAnswer::Refused(fault) => {
+                    Ok(_) => answer,
+                    Err(fault) => {
                         let why = fault.why;
-                        LDataAnswer::Refused(Fault {
+                        Err(Fault {
                             why,
                             at: start + fault.at,
                         })
                     }
                 }
             }
-            Standing::Falls(fault) => LDataAnswer::Refused(fault),
+            Err(fault) => Err(fault),
         }
     }
 
@@ -173,26 +161,26 @@ impl CEMIFrame {
     }
 
     // A whole frame: the additional information has to be readable, the service information is not looked at.
-    pub fn build(self, additional_info: &[u8], service_info: &[u8], buf: &mut [u8]) -> Written
+    pub fn build(self, additional_info: &[u8], service_info: &[u8], buf: &mut [u8]) -> Result<usize, Refusal>
         ensures { BuildPromise self additional_info.now service_info.now buf.old result buf.new }
     {
         match additional_info::judge(additional_info, 0) {
-            Verdict::Accept => {
+            Ok(()) => {
                 let message_code = self.message_code;
                 let head = [message_code.to_u8(), additional_info.len() as u8];
                 wire::write3(&head, additional_info, service_info, buf)
             }
-            Verdict::Refuse(why) => Written::Refused(why),
+            Err(why) => Err(why),
         }
     }
 }
 
 // The checks of a parse, which every accessor that reads through the slice repeats.
-fn stands(data: &[u8]) -> Standing
+fn stands(data: &[u8]) -> Result<(), Fault>
     ensures { StandsPromise «data».now result }
 {
     match CEMIFrame::parse(data) {
-        CEMIAnswer::Frame(_) => Standing::Stands,
-        CEMIAnswer::Refused(fault) => Standing::Falls(fault),
+        Ok(_) => Ok(()),
+        Err(fault) => Err(fault),
     }
 }

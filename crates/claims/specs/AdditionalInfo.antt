@@ -1,5 +1,5 @@
 -- 02, 1/13, "Read the gateway's timestamps": the reader decides what is readable, records come back through reader and writer, the old calls stay; then rows typed from 02. Over the promises that the contracts cite.
-use Rattle.std.specs.Prelude.{ℕ, ◌+◌, ◌≤◌, ◌≡◌, refl, List, [], ◌∷◌, ◌++◌, length, take, drop, replicate}
+use Rattle.std.specs.Prelude.{ℕ, ◌+◌, ◌≤◌, ◌≡◌, refl, List, [], ◌∷◌, ◌++◌, length, take, drop, replicate, Result, Ok, Err, Some, None}
 use Rattle.std.proofs.Common.{arith, sym, ap, ◌∙◌}
 use Rattle.wire.specs.Told.{Told, done, viewed, verdict}
 use Rattle.wire.specs.ToldLaws.{never_brought}
@@ -9,13 +9,9 @@ use Rattle.wire.specs.Parts as Parts
 use Rattle.wire.specs.declared.parts.View.{View}
 use Rattle.wire.specs.declared.refusals.Fault.{Fault}
 use Rattle.wire.specs.declared.refusals.Refusal.TheVariants.{InvalidAdditionalInfo}
-use Rattle.wire.specs.declared.refusals.Verdict.TheVariants.{Accept}
-use Rattle.wire.specs.declared.refusals.Written.{Written}
-use Rattle.wire.specs.declared.refusals.Written.TheVariants as Written
 use Rattle.constants.specs.declared.message_codes.CEMIMessageCode.TheVariants.{LDataReq, LDataInd}
 use Rattle.ldata.specs.Count.{crate_count}
 use Rattle.ldata.specs.LData as LData
-use Rattle.ldata.specs.declared.ldata.LDataAnswer.{LDataAnswer}
 use Rattle.additional_info.specs.InfoType.{code_of}
 use Rattle.additional_info.specs.InfoTypeLaws as InfoTypeLaws
 use Rattle.additional_info.specs.InfoType as InfoType
@@ -27,29 +23,25 @@ use Rattle.additional_info.specs.Appending as Appending
 use Rattle.additional_info.specs.AppendingLaws as AppendingLaws
 use Rattle.additional_info.specs.declared.info_type.AdditionalInfoType.{AdditionalInfoType}
 use Rattle.additional_info.specs.declared.info_type.AdditionalInfoType.TheVariants as AdditionalInfoType
-use Rattle.additional_info.specs.declared.area.Timestamp.TheVariants as Timestamp
 use Rattle.additional_info.specs.declared.area.AdditionalInfo.{AdditionalInfo}
 use Rattle.additional_info.specs.declared.area.AdditionalInfoAnswer.{AdditionalInfoAnswer}
 use Rattle.additional_info.specs.declared.area.AdditionalInfoAnswer.TheVariants as AdditionalInfoAnswer
-use Rattle.additional_info.specs.declared.area.CountAnswer.{CountAnswer}
-use Rattle.additional_info.specs.declared.area.CountAnswer.TheVariants as CountAnswer
 use Rattle.cemi.specs.Cemi as Cemi
 use Rattle.cemi.specs.InfoLaws as CemiInfoLaws
 use Rattle.cemi.specs.declared.CEMIFrame.{CEMIFrame}
-use Rattle.cemi.specs.declared.CEMIAnswer.{CEMIAnswer}
-use Rattle.cemi.specs.declared.InfoLengthAnswer.{InfoLengthAnswer}
 use Rattle.claims.specs.Demand2.{ReadsBack}
 use Rattle.claims.specs.Layouts.{nines}
 use Rattle.claims.specs.Rows.{ldata}
+use Rattle.ldata.specs.declared.ldata.LDataFields.{LDataFields}
 
 -- ---- the reader decides what is readable, in both directions
 
 -- what is counted is filled exactly by that many records
-pub counted_is_readable : (s : List ℕ) (n : ℕ) → Area.CountPromise s (CountAnswer.Count n) → (x : Readable s) × (n ≡ length x.records)
+pub counted_is_readable : (s : List ℕ) (n : ℕ) → Area.CountPromise s (Ok n) → (x : Readable s) × (n ≡ length x.records)
 counted_is_readable = AreaLaws.count_readable
 
 -- what records fill exactly is counted, and is these records
-pub readable_is_counted : (s : List ℕ) (x : Readable s) (r : CountAnswer) → Area.CountPromise s r → r ≡ CountAnswer.Count (length x.records)
+pub readable_is_counted : (s : List ℕ) (x : Readable s) (r : Result ℕ Fault) → Area.CountPromise s r → r ≡ Ok (length x.records)
 readable_is_counted = AreaLaws.readable_count
 
 -- two rows of records that fill the same area are one
@@ -98,7 +90,7 @@ pub nth_shows : (s : List ℕ) (n : ℕ) (r : AdditionalInfo) → Area.NthPromis
 nth_shows = AreaLaws.nth_shows
 
 -- "an empty one has no record"
-pub empty_has_none : (r : AdditionalInfoAnswer) (k : CountAnswer) → Area.ParsePromise [] r → Area.CountPromise [] k → (r ≡ AdditionalInfoAnswer.None) × (k ≡ CountAnswer.Count 0)
+pub empty_has_none : (r : AdditionalInfoAnswer) (k : Result ℕ Fault) → Area.ParsePromise [] r → Area.CountPromise [] k → (r ≡ AdditionalInfoAnswer.None) × (k ≡ Ok 0)
 empty_has_none r k p q = (AreaLaws.parse_one [] r AdditionalInfoAnswer.None p refl, readable_is_counted [] (record { records = []; fills = refl }) k q)
 
 -- "types outside `AdditionalInfoType` are kept as numbers"
@@ -109,7 +101,7 @@ type_kept n t m p q = q ∙ ap code_of p ∙ InfoTypeLaws.code_back n
 
 -- reading what the writer wrote gives the old records and the new one
 pub append_reads_back : (s : List ℕ) (t : AdditionalInfoType) (d b : List ℕ) (n : ℕ) (after : List ℕ)
-    → Appending.AppendPromise s t d b (Written.Bytes n) after → AppendingLaws.Wrote s (record { code = code_of t; «data» = d }) (take n after)
+    → Appending.AppendPromise s t d b (Ok n) after → AppendingLaws.Wrote s (record { code = code_of t; «data» = d }) (take n after)
 append_reads_back = AppendingLaws.wrote
 
 -- "Every readable area up to 255 bytes, read and written again, is the same bytes": its records, appended one after another from the empty area
@@ -119,31 +111,31 @@ read_write = AppendingLaws.rebuilds
 -- ---- a whole cEMI frame
 
 -- built, then parsed: code, area and rest come back
-pub cemi_build_back : (f : CEMIFrame) (area rest b : List ℕ) (n : ℕ) (after : List ℕ) → Cemi.BuildPromise f area rest b (Written.Bytes n) after → CemiInfoLaws.Built f area rest (take n after)
+pub cemi_build_back : (f : CEMIFrame) (area rest b : List ℕ) (n : ℕ) (after : List ℕ) → Cemi.BuildPromise f area rest b (Ok n) after → CemiInfoLaws.Built f area rest (take n after)
 cemi_build_back = CemiInfoLaws.built
 
 -- accepted, it has the layout of its parts
-pub cemi_apart : (s : List ℕ) → verdict (Cemi.checks s ++ Cemi.info_check s ∷ []) ≡ Accept → Cemi.layout (Cemi.code_in s) (Parts.shown s (Cemi.info_by02 s)) (Parts.shown s (Cemi.service_info_by01 s)) ≡ s
+pub cemi_apart : (s : List ℕ) → verdict (Cemi.checks s ++ Cemi.info_check s ∷ []) ≡ Ok tt → Cemi.layout (Cemi.code_in s) (Parts.shown s (Cemi.info_by02 s)) (Parts.shown s (Cemi.service_info_by01 s)) ≡ s
 cemi_apart = CemiInfoLaws.taken_apart
 
 -- ---- "Old calls stay": none of them gives 14, and the area's bounds are handed out without it
 
-pub parse_never_14 : (s : List ℕ) (r : CEMIAnswer) → Cemi.ParsePromise s r → (Cemi.told r).number ≡ 14 → ⊥
+pub parse_never_14 : (s : List ℕ) (r : Result CEMIFrame Fault) → Cemi.ParsePromise s r → (Cemi.told r).number ≡ 14 → ⊥
 parse_never_14 s r p q = never_brought (Cemi.checks s) (done (Cemi.code_in s ∷ [])) 14 refl (omega arith) refl (sym (ap (λ (t : Told). t.number) p) ∙ q)
 
-pub length_never_14 : (s : List ℕ) (r : InfoLengthAnswer) → Cemi.InfoLengthPromise s r → (Cemi.told_length r).number ≡ 14 → ⊥
+pub length_never_14 : (s : List ℕ) (r : Result ℕ Fault) → Cemi.InfoLengthPromise s r → (Cemi.told_length r).number ≡ 14 → ⊥
 length_never_14 s r p q = never_brought (Cemi.checks s) (done (Cemi.info_length s ∷ [])) 14 refl (omega arith) refl (sym (ap (λ (t : Told). t.number) p) ∙ q)
 
-pub service_info_never_14 : (s : List ℕ) (r : View) → Cemi.ServiceInfoPromise s r → r.number ≡ 14 → ⊥
+pub service_info_never_14 : (s : List ℕ) (r : Result View Fault) → Cemi.ServiceInfoPromise s r → r.number ≡ 14 → ⊥
 service_info_never_14 s r p q =
     never_brought (Cemi.checks s ++ Cemi.info_check s ∷ []) (viewed (2 + Cemi.info_length s) (length s)) 14 refl (omega arith) refl (sym (ap (λ (t : Told). t.number) p) ∙ q)
 
-pub as_ldata_never_14 : (f : CEMIFrame) (s : List ℕ) (r : LDataAnswer) → Cemi.AsLDataPromise f s r → (LData.told r).number ≡ 14 → ⊥
+pub as_ldata_never_14 : (f : CEMIFrame) (s : List ℕ) (r : Result LDataFields Fault) → Cemi.AsLDataPromise f s r → (LData.told r).number ≡ 14 → ⊥
 as_ldata_never_14 f s r p q =
     never_brought (Cemi.checks s ++ Cemi.ldata_checks f s ++ LData.byte_checks crate_count (Cemi.service_info s)) (done (LData.values_in crate_count (Cemi.service_info s))) 14 refl (omega arith) refl
     (sym (ap (λ (t : Told). t.number) p) ∙ q)
 
-pub info_never_14 : (s : List ℕ) (r : View) → Cemi.InfoPromise s r → r.number ≡ 14 → ⊥
+pub info_never_14 : (s : List ℕ) (r : Result View Fault) → Cemi.InfoPromise s r → r.number ≡ 14 → ⊥
 info_never_14 s r p q =
     never_brought (Cemi.checks s ++ Cemi.info_check s ∷ []) (viewed 2 (2 + Cemi.info_length s)) 14 refl (omega arith) refl (sym (ap (λ (t : Told). t.number) p) ∙ q)
 
@@ -151,10 +143,10 @@ info_never_14 s r p q =
 
 -- a record with a timestamp, or with none
 abbrev stamped_info : AdditionalInfoType → ℕ → ℕ → ℕ → AdditionalInfoAnswer
-stamped_info t value start end = AdditionalInfoAnswer.Record (record { info_type = t; timestamp = Timestamp.Value value; start = start; end = end })
+stamped_info t value start end = AdditionalInfoAnswer.Record (record { info_type = t; timestamp = Some value; start = start; end = end })
 
 abbrev plain_info : AdditionalInfoType → ℕ → ℕ → AdditionalInfoAnswer
-plain_info t start end = AdditionalInfoAnswer.Record (record { info_type = t; timestamp = Timestamp.None; start = start; end = end })
+plain_info t start end = AdditionalInfoAnswer.Record (record { info_type = t; timestamp = None; start = start; end = end })
 
 -- 14, at the type byte of the record that does not stand
 abbrev broken : ℕ → Fault
@@ -179,19 +171,19 @@ pub record Reading : Type 0 where
   pub second : Area.NthPromise three_records 1 (plain_info (AdditionalInfoType.Unknown 0x99) 6 7)
   pub third : Area.NthPromise three_records 2 (stamped_info AdditionalInfoType.ExtendedRelativeTimestamp 0x80010203 9 13)
   pub fourth : Area.NthPromise three_records 3 AdditionalInfoAnswer.None
-  pub three : Area.CountPromise three_records (CountAnswer.Count 3)
+  pub three : Area.CountPromise three_records (Ok 3)
   -- a timestamp of another length is a record without a value
   pub long_relative : Area.ParsePromise (0x04 ∷ 0x04 ∷ 1 ∷ 2 ∷ 3 ∷ 4 ∷ []) (plain_info AdditionalInfoType.RelativeTimestamp 2 6)
   pub short_extended : Area.ParsePromise (0x06 ∷ 0x02 ∷ 1 ∷ 2 ∷ []) (plain_info AdditionalInfoType.ExtendedRelativeTimestamp 2 4)
   pub delay : Area.ParsePromise (0x05 ∷ 0x02 ∷ 1 ∷ 2 ∷ []) (plain_info AdditionalInfoType.TimeDelay 2 4)
   -- one record is read from the front alone; the whole area is judged for a count and for the n-th
   pub front_alone : Area.ParsePromise (0x04 ∷ 0x00 ∷ 0x99 ∷ []) (plain_info AdditionalInfoType.RelativeTimestamp 2 2)
-  pub whole_counted : Area.CountPromise (0x04 ∷ 0x00 ∷ 0x99 ∷ []) (CountAnswer.Refused (broken 2))
+  pub whole_counted : Area.CountPromise (0x04 ∷ 0x00 ∷ 0x99 ∷ []) (Err (broken 2))
   pub whole_nth : Area.NthPromise (0x04 ∷ 0x00 ∷ 0x99 ∷ []) 0 (refused14 2)
-  pub none_counted : Area.CountPromise [] (CountAnswer.Count 0)
+  pub none_counted : Area.CountPromise [] (Ok 0)
   -- more records than one walk takes, and a lone type byte behind them
-  pub zeros_counted : Area.CountPromise (replicate 260 0) (CountAnswer.Count 130)
-  pub zeros_and_one : Area.CountPromise (replicate 261 0) (CountAnswer.Refused (broken 260))
+  pub zeros_counted : Area.CountPromise (replicate 260 0) (Ok 130)
+  pub zeros_and_one : Area.CountPromise (replicate 261 0) (Err (broken 260))
 
 pub reading : Reading
 unfolding records_in behind
@@ -243,21 +235,21 @@ pub record Writing02 : Type 0 where
   pub long_area : appends (replicate 256 0) 0 300 ≡ 5
   pub long_unreadable : appends (replicate 257 0) 0 0 ≡ 14
   -- the old area, then type, length and data
-  pub appended : Appending.AppendPromise (0x99 ∷ 0x01 ∷ 0xAA ∷ []) AdditionalInfoType.RelativeTimestamp (0x12 ∷ 0x34 ∷ []) nines (Written.Bytes 7)
+  pub appended : Appending.AppendPromise (0x99 ∷ 0x01 ∷ 0xAA ∷ []) AdditionalInfoType.RelativeTimestamp (0x12 ∷ 0x34 ∷ []) nines (Ok 7)
       (0x99 ∷ 0x01 ∷ 0xAA ∷ 0x04 ∷ 0x02 ∷ 0x12 ∷ 0x34 ∷ 9 ∷ 9 ∷ [])
   -- a whole frame: 14, then 5, then 1; code, length, area and rest
   pub frame_unreadable : builds (0x04 ∷ []) 0 0 ≡ 14
   pub frame_long : builds (replicate 256 0) 0 0 ≡ 5
   pub frame_no_room : builds (replicate 254 0) 9 264 ≡ 1
   pub frame-room : builds (replicate 254 0) 9 265 ≡ 0
-  pub frame : Cemi.BuildPromise (record { message_code = LDataReq }) (0x04 ∷ 0x02 ∷ 0x12 ∷ 0x34 ∷ []) (0xBC ∷ 0xE0 ∷ []) nines (Written.Bytes 8)
+  pub frame : Cemi.BuildPromise (record { message_code = LDataReq }) (0x04 ∷ 0x02 ∷ 0x12 ∷ 0x34 ∷ []) (0xBC ∷ 0xE0 ∷ []) nines (Ok 8)
       (0x11 ∷ 0x04 ∷ 0x04 ∷ 0x02 ∷ 0x12 ∷ 0x34 ∷ 0xBC ∷ 0xE0 ∷ 9 ∷ [])
   -- the old calls step over an area that is not readable; the area itself is 14
   pub old_parse : (Cemi.parse_by01 lone_type).number ≡ 0
   pub old_service_info : Cemi.service_info_by01 lone_type ≡ viewed 3 13
   pub old_as_ldata : (Cemi.as_ldata_by01 indication lone_type).number ≡ 0
   pub area_of_it : Cemi.info_by02 lone_type ≡ viewed 2 3
-  pub area-judged : Area.CountPromise (Parts.shown lone_type (Cemi.info_by02 lone_type)) (CountAnswer.Refused (broken 0))
+  pub area-judged : Area.CountPromise (Parts.shown lone_type (Cemi.info_by02 lone_type)) (Err (broken 0))
   -- the area is asked for as the rest is: 1, 6, 2
   pub area-short : (Cemi.info_by02 (0x29 ∷ [])).number ≡ 1
   pub area_code : (Cemi.info_by02 (0x13 ∷ 0x05 ∷ [])).number ≡ 6

@@ -1,7 +1,6 @@
 -- The C border, one row for each exported function, a refusal with its offset for each answer that reads, and the table's image: numbers and bytes typed from 01. The arguments and fields of a row differ, so that two exchanged in promise and code alike are found.
-use Rattle.std.specs.Prelude.{ℕ, refl, List, [], ◌∷◌, ◌++◌, replicate}
+use Rattle.std.specs.Prelude.{ℕ, refl, List, [], ◌∷◌, ◌++◌, replicate, Ok, Err}
 use Rattle.wire.specs.declared.refusals.Refusal.TheVariants.{InvalidMessageCode}
-use Rattle.wire.specs.declared.refusals.Written.TheVariants.{Bytes, Refused}
 use Rattle.constants.specs.MessageCodes.{message_of}
 use Rattle.pci.specs.PciLaws.{tpci_of}
 use Rattle.tunnel.specs.declared.rules.Wait.TheVariants.{First, Second}
@@ -262,19 +261,19 @@ pub record Builds : Type 0 where
 pub builds : Builds
 unfolding tpci_of records_in behind
 builds = record {
-  ldata = record { answer = Bytes 10; keeps = (refl, refl); tells = refl };
-  ldata_standard = record { answer = Bytes 10; keeps = (refl, refl); tells = refl };
-  ldata_nak = record { answer = Bytes 8; keeps = (refl, refl); tells = refl };
-  connect_request = record { answer = Bytes 26; keeps = (refl, refl); tells = refl };
-  state_request = record { answer = Bytes 16; keeps = (refl, refl); tells = refl };
-  disconnect_request = record { answer = Bytes 16; keeps = (refl, refl); tells = refl };
-  tunneling_request = record { answer = Bytes 12; keeps = (refl, refl); tells = refl };
-  info-append = record { answer = Bytes 7; keeps = (refl, refl); tells = refl };
-  cemi_build = record { answer = Bytes 8; keeps = (refl, refl); tells = refl };
-  cemi_code = record { answer = Refused InvalidMessageCode; keeps = (refl, refl); tells = refl };
-  tunneling_ack = record { answer = Bytes 11; keeps = (refl, refl); tells = refl };
-  tunneling_ack_standard = record { answer = Bytes 10; keeps = (refl, refl); tells = refl };
-  disconnect_response = record { answer = Bytes 8; keeps = (refl, refl); tells = refl };
+  ldata = record { answer = Ok 10; keeps = (refl, refl); tells = refl };
+  ldata_standard = record { answer = Ok 10; keeps = (refl, refl); tells = refl };
+  ldata_nak = record { answer = Ok 8; keeps = (refl, refl); tells = refl };
+  connect_request = record { answer = Ok 26; keeps = (refl, refl); tells = refl };
+  state_request = record { answer = Ok 16; keeps = (refl, refl); tells = refl };
+  disconnect_request = record { answer = Ok 16; keeps = (refl, refl); tells = refl };
+  tunneling_request = record { answer = Ok 12; keeps = (refl, refl); tells = refl };
+  info-append = record { answer = Ok 7; keeps = (refl, refl); tells = refl };
+  cemi_build = record { answer = Ok 8; keeps = (refl, refl); tells = refl };
+  cemi_code = record { answer = Err InvalidMessageCode; keeps = (refl, refl); tells = refl };
+  tunneling_ack = record { answer = Ok 11; keeps = (refl, refl); tells = refl };
+  tunneling_ack_standard = record { answer = Ok 10; keeps = (refl, refl); tells = refl };
+  disconnect_response = record { answer = Ok 8; keeps = (refl, refl); tells = refl };
 }
 
 -- ---- the table's image
@@ -307,7 +306,7 @@ refused_at o n = record { start = 0; end = 0; written = 0; said = 0; offset = o;
 
 pub record Tables : Type 0 where
   pub unpacked : Image.UnpackPromise two (record { places = two_places })
-  pub packed : Image.PackPromise two_places (replicate 41 9) (Bytes 40) (two ++ 9 ∷ [])
+  pub packed : Image.PackPromise two_places (replicate 41 9) (Ok 40) (two ++ 9 ∷ [])
   pub empty : Called.EmptyPromise (replicate 41 9) (wrote 40) (replicate 40 0 ++ 9 ∷ [])
   pub opens : Called.OpenPromise (image_of (place 0x15 7 3 1) none) 0x16 (said 0) (image_of (place 0x15 7 3 1) (place 0x16 0 0 0))
   pub closes : Called.ClosePromise two 0x15 (said 0) (image_of none (place 0x16 8 4 2))
@@ -347,7 +346,7 @@ pub tables : Tables
 tables = record {
   unpacked = refl;
   packed = (refl, refl);
-  empty = record { answer = Bytes 40; keeps = (refl, refl); tells = refl };
+  empty = record { answer = Ok 40; keeps = (refl, refl); tells = refl };
   opens = refl;
   closes = refl;
   repeats = refl;

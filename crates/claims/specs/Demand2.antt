@@ -1,24 +1,18 @@
 -- Demand 2 as predicates over any parser and any builder, and that ours have them. A parser is what it tells of each byte string; a builder is what it tells and what its buffer holds afterwards.
-use Rattle.std.specs.Prelude.{ℕ, ◌+◌, ◌≤◌, ◌≡◌, List, [], ◌∷◌, ◌++◌, length, take, drop, get_or, Bool, true, false}
+use Rattle.std.specs.Prelude.{ℕ, ◌+◌, ◌≤◌, ◌≡◌, List, [], ◌∷◌, ◌++◌, length, take, drop, get_or, Bool, true, false, Result, Ok}
 use Rattle.std.proofs.Common.{sym, ap, ◌∙◌, subst}
 use Rattle.std.proofs.Math.Seq.{drop-append_seam}
 use Rattle.wire.specs.Told.{Told, done, Check, verdict, lent, none_of}
 use Rattle.wire.specs.ToldLaws.{let_pass}
 use Rattle.wire.specs.LayoutLaws.{Bytes}
 use Rattle.wire.specs.Writing.{onto, tells, leaves}
-use Rattle.wire.specs.declared.refusals.Verdict.{Verdict}
-use Rattle.wire.specs.declared.refusals.Verdict.TheVariants.{Accept}
-use Rattle.wire.specs.declared.refusals.Written.TheVariants as Written
+use Rattle.wire.specs.Told.{Verdict}
 use Rattle.constants.specs.Services as Services
 use Rattle.constants.specs.ServiceLaws as ServiceLaws
 use Rattle.constants.specs.MessageCodes as MessageCodes
 use Rattle.constants.specs.MessageCodeLaws as MessageCodeLaws
 use Rattle.constants.specs.declared.message_codes.CEMIMessageCode.{CEMIMessageCode}
-use Rattle.constants.specs.declared.message_codes.CEMIMessageCodeAnswer.{CEMIMessageCodeAnswer}
-use Rattle.constants.specs.declared.message_codes.CEMIMessageCodeAnswer.TheVariants as CEMIMessageCodeAnswer
 use Rattle.constants.specs.declared.services.ServiceType.{ServiceType}
-use Rattle.constants.specs.declared.services.ServiceAnswer.{ServiceAnswer}
-use Rattle.constants.specs.declared.services.ServiceAnswer.TheVariants as ServiceAnswer
 use Rattle.constants.specs.declared.priorities.Priority.{Priority}
 use Rattle.control.specs.First as First
 use Rattle.control.specs.Second as Second
@@ -37,8 +31,6 @@ use Rattle.ldata.specs.RoundTrip as LDataRoundTrip
 use Rattle.ldata.specs.declared.count.Counting.{Counting}
 use Rattle.ldata.specs.declared.count.Counting.TheVariants.{Crate}
 use Rattle.ldata.specs.declared.ldata.LDataFields.{LDataFields}
-use Rattle.ldata.specs.declared.ldata.LDataAnswer.{LDataAnswer}
-use Rattle.ldata.specs.declared.ldata.LDataAnswer.TheVariants as LDataAnswer
 use Rattle.ldata.specs.declared.builder.LDataBuilder.{LDataBuilder}
 use Rattle.wire.specs.Parts.{shown}
 use Rattle.wire.specs.declared.parts.View.{View}
@@ -58,25 +50,19 @@ use Rattle.knx.specs.declared.cemi_ldata.KnxLData.{KnxLData}
 use Rattle.cemi.specs.Cemi as Cemi
 use Rattle.cemi.specs.CemiLaws as CemiLaws
 use Rattle.cemi.specs.declared.CEMIFrame.{CEMIFrame}
-use Rattle.cemi.specs.declared.CEMIAnswer.TheVariants as CEMIAnswer
 use Rattle.header.specs.Header as Header
 use Rattle.header.specs.HeaderLaws as HeaderLaws
 use Rattle.header.specs.declared.KnxnetIpHeader.{KnxnetIpHeader}
-use Rattle.header.specs.declared.HeaderAnswer.{HeaderAnswer}
-use Rattle.header.specs.declared.HeaderAnswer.TheVariants as HeaderAnswer
 use Rattle.frame.specs.Frame as Frame
 use Rattle.frame.specs.Builder as FrameBuilder
 use Rattle.frame.specs.Write as Write
 use Rattle.frame.specs.RoundTrip.{Back, Carries}
 use Rattle.frame.specs.RoundTrip as FrameRoundTrip
 use Rattle.frame.specs.declared.frame.FrameFields.{FrameFields}
-use Rattle.frame.specs.declared.frame.FrameAnswer.{FrameAnswer}
-use Rattle.frame.specs.declared.frame.FrameAnswer.TheVariants as FrameAnswer
 use Rattle.frame.specs.declared.builder.FrameBuilder.{FrameBuilder}
 use Rattle.hpai.specs.Hpai as Hpai
 use Rattle.hpai.specs.HpaiLaws as HpaiLaws
 use Rattle.hpai.specs.declared.Hpai.{Hpai}
-use Rattle.hpai.specs.declared.HpaiAnswer.{HpaiAnswer}
 use Rattle.wire.specs.Layout.{put}
 use Rattle.constants.specs.declared.services.ServiceType.TheVariants as ServiceType
 use Rattle.connect.specs.Cri as Cri
@@ -88,8 +74,6 @@ use Rattle.connect.specs.ResponseLaws as ConnectResponseLaws
 use Rattle.connect.specs.Channel as Channel
 use Rattle.connect.specs.ChannelLaws as ChannelLaws
 use Rattle.connect.specs.declared.cri.ConnectionRequestInfo.{ConnectionRequestInfo}
-use Rattle.connect.specs.declared.cri.ConnectionRequestInfoAnswer.{ConnectionRequestInfoAnswer}
-use Rattle.connect.specs.declared.cri.ConnectionRequestInfoAnswer.TheVariants as ConnectionRequestInfoAnswer
 use Rattle.connect.specs.declared.request.ConnectRequest.{ConnectRequest}
 use Rattle.connect.specs.declared.response.ConnectResponse.{ConnectResponse}
 use Rattle.connect.specs.declared.channel.ConnectionStateRequest.{ConnectionStateRequest}
@@ -101,11 +85,9 @@ use Rattle.tunnelling.specs.RequestLaws as TunnelingRequestLaws
 use Rattle.tunnelling.specs.Ack as TunnelingAck
 use Rattle.tunnelling.specs.AckLaws as TunnelingAckLaws
 use Rattle.tunnelling.specs.declared.connection.ConnectionHeader.{ConnectionHeader}
-use Rattle.tunnelling.specs.declared.connection.ConnectionHeaderAnswer.{ConnectionHeaderAnswer}
-use Rattle.tunnelling.specs.declared.connection.ConnectionHeaderAnswer.TheVariants as ConnectionHeaderAnswer
 use Rattle.tunnelling.specs.declared.request.TunnelingRequest.{TunnelingRequest}
 use Rattle.tunnelling.specs.declared.ack.TunnelingAck.{TunnelingAck}
-use Rattle.tunnelling.specs.declared.ack.TunnelingAckAnswer.TheVariants as TunnelingAckAnswer
+use Rattle.wire.specs.declared.refusals.Fault.{Fault}
 
 -- ---- parsers
 
@@ -118,7 +100,7 @@ abbrev pub HasLayout : {A : Type 0} → (A → List ℕ) → (A → Told) → �
 HasLayout {A} layout tells size parse = (s : List ℕ) (a : A) → Bytes s → tells a ≡ parse s → take size s ≡ layout a
 
 abbrev pub header : KnxnetIpHeader → Told
-header h = Header.told (HeaderAnswer.Header h)
+header h = Header.told (Ok h)
 
 pub header_reads_back : ReadsBack HeaderLaws.Proper Header.layout header Header.parse_where
 header_reads_back = HeaderLaws.reads_back
@@ -157,13 +139,13 @@ frame-builds = FrameRoundTrip.builds
 
 -- fields and data that the builder takes, with room for the frame
 abbrev pub ldata_proper : Counting → LDataBuilder × List ℕ → Type 0
-ldata_proper c x = verdict (LDataBuilder.checks_in (count_by c) x.0 (length x.1) (LDataRoundTrip.size_in (count_by c) x.0 (length x.1))) ≡ Accept
+ldata_proper c x = verdict (LDataBuilder.checks_in (count_by c) x.0 (length x.1) (LDataRoundTrip.size_in (count_by c) x.0 (length x.1))) ≡ Ok tt
 
 abbrev pub ldata_bytes : Counting → LDataBuilder × List ℕ → List ℕ
 ldata_bytes c x = LDataBuilder.frame_in (count_by c) x.0 x.1
 
 abbrev pub ldata : Counting → LDataBuilder × List ℕ → Told
-ldata c x = LData.told (LDataAnswer.Frame (LDataRoundTrip.built_in (count_by c) x.0 (length x.1)))
+ldata c x = LData.told (Ok (LDataRoundTrip.built_in (count_by c) x.0 (length x.1)))
 
 pub ldata_reads_back : (c : Counting) → ReadsBack (ldata_proper c) (ldata_bytes c) (ldata c) (LData.parse_where (count_by c))
 ldata_reads_back c x rest p =
@@ -177,7 +159,7 @@ pub record LDataBack (c : Counting) (b : LDataBuilder) (d buf after : List ℕ) 
 
 abbrev pub LDataBuilds : Counting → (LDataBuilder → List ℕ → List ℕ → Told) → (LDataBuilder → List ℕ → List ℕ → List ℕ) → Type 0
 LDataBuilds c tells after =
-    (b : LDataBuilder) (d buf : List ℕ) → verdict (LDataBuilder.checks_in (count_by c) b (length d) (length buf)) ≡ Accept
+    (b : LDataBuilder) (d buf : List ℕ) → verdict (LDataBuilder.checks_in (count_by c) b (length d) (length buf)) ≡ Ok tt
     → (tells b d buf ≡ done (LDataRoundTrip.size_in (count_by c) b (length d) ∷ [])) × LDataBack c b d buf (after b d buf)
 
 -- what `LDataBuilder::build_in` promises to tell and to leave in its buffer
@@ -204,56 +186,56 @@ ldata-builds c b d buf all =
 
 -- ---- round trips, from what one call promises to what the next one promises
 
-pub service_to_from : (s : ServiceType) (code : ℕ) (r : ServiceAnswer) → Services.ToPromise s code → Services.FromPromise code r → r ≡ ServiceAnswer.Service s
+pub service_to_from : (s : ServiceType) (code : ℕ) (r : Result ServiceType Fault) → Services.ToPromise s code → Services.FromPromise code r → r ≡ Ok s
 service_to_from = ServiceLaws.from_to
 
-pub service_from_to : (code : ℕ) (s : ServiceType) → Services.FromPromise code (ServiceAnswer.Service s) → Services.ToPromise s code
+pub service_from_to : (code : ℕ) (s : ServiceType) → Services.FromPromise code (Ok s) → Services.ToPromise s code
 service_from_to = ServiceLaws.to_from
 
-pub message_code_to_from : (m : CEMIMessageCode) (n : ℕ) (r : CEMIMessageCodeAnswer) → MessageCodes.ToPromise m n → MessageCodes.FromPromise n r → r ≡ CEMIMessageCodeAnswer.Code m
+pub message_code_to_from : (m : CEMIMessageCode) (n : ℕ) (r : Result CEMIMessageCode Fault) → MessageCodes.ToPromise m n → MessageCodes.FromPromise n r → r ≡ Ok m
 message_code_to_from = MessageCodeLaws.from_to
 
-pub message_code_from_to : (n : ℕ) (m : CEMIMessageCode) → MessageCodes.FromPromise n (CEMIMessageCodeAnswer.Code m) → MessageCodes.ToPromise m n
+pub message_code_from_to : (n : ℕ) (m : CEMIMessageCode) → MessageCodes.FromPromise n (Ok m) → MessageCodes.ToPromise m n
 message_code_from_to = MessageCodeLaws.to_from
 
-pub header_encode_parse : (h : KnxnetIpHeader) (b : List ℕ) (n : ℕ) (after : List ℕ) (r : HeaderAnswer)
-    → HeaderLaws.Proper h → Header.EncodePromise h b (Written.Bytes n) after → Header.ParsePromise after r → r ≡ HeaderAnswer.Header h
+pub header_encode_parse : (h : KnxnetIpHeader) (b : List ℕ) (n : ℕ) (after : List ℕ) (r : Result KnxnetIpHeader Fault)
+    → HeaderLaws.Proper h → Header.EncodePromise h b (Ok n) after → Header.ParsePromise after r → r ≡ Ok h
 header_encode_parse = HeaderLaws.encode_parse
 
-pub hpai_encode_parse : (h : Hpai) (b : List ℕ) (n : ℕ) (after : List ℕ) (r : HpaiAnswer)
-    → HpaiLaws.Proper h → Hpai.EncodePromise h b (Written.Bytes n) after → Hpai.ParsePromise after r → r ≡ HpaiLaws.accepted h
+pub hpai_encode_parse : (h : Hpai) (b : List ℕ) (n : ℕ) (after : List ℕ) (r : Result Hpai Fault)
+    → HpaiLaws.Proper h → Hpai.EncodePromise h b (Ok n) after → Hpai.ParsePromise after r → r ≡ HpaiLaws.accepted h
 hpai_encode_parse = HpaiLaws.encode_parse
 
-pub frame_build_parse : (f : FrameBuilder) (body b : List ℕ) (n : ℕ) (after : List ℕ) (r : FrameAnswer)
-    → FrameBuilder.BuildPromise f body b (Written.Bytes n) after → Frame.ParsePromise after r → r ≡ FrameAnswer.Frame (FrameRoundTrip.built f.service_type body)
+pub frame_build_parse : (f : FrameBuilder) (body b : List ℕ) (n : ℕ) (after : List ℕ) (r : Result FrameFields Fault)
+    → FrameBuilder.BuildPromise f body b (Ok n) after → Frame.ParsePromise after r → r ≡ Ok (FrameRoundTrip.built f.service_type body)
 frame_build_parse = FrameRoundTrip.build_parse
 
 pub frame_build_back : (f : FrameBuilder) (body b : List ℕ) (n : ℕ) (after : List ℕ)
-    → FrameBuilder.BuildPromise f body b (Written.Bytes n) after → (n ≡ 6 + length body) × Back f.service_type body b after
+    → FrameBuilder.BuildPromise f body b (Ok n) after → (n ≡ 6 + length body) × Back f.service_type body b after
 frame_build_back = FrameRoundTrip.build_back
 
 -- what a frame parse accepts is the header's layout and the body
-pub frame_has_layout : (s : List ℕ) (f : FrameFields) (body all : List ℕ) → Bytes s → Frame.ParsePromise s (FrameAnswer.Frame f)
+pub frame_has_layout : (s : List ℕ) (f : FrameFields) (body all : List ℕ) → Bytes s → Frame.ParsePromise s (Ok f)
     → Frame.BodyPartPromise f s body → Frame.DataPartPromise f s all → all ≡ Header.layout f.header ++ body
 frame_has_layout = FrameRoundTrip.has_layout
 
 -- ---- services.rs: parsers
 
-pub cri_encode_decode : (c : ConnectionRequestInfo) (b : List ℕ) (n : ℕ) (after : List ℕ) (r : ConnectionRequestInfoAnswer)
-    → Cri.EncodePromise c b (Written.Bytes n) after → Cri.DecodePromise after r → r ≡ ConnectionRequestInfoAnswer.Info c
+pub cri_encode_decode : (c : ConnectionRequestInfo) (b : List ℕ) (n : ℕ) (after : List ℕ) (r : Result ConnectionRequestInfo Fault)
+    → Cri.EncodePromise c b (Ok n) after → Cri.DecodePromise after r → r ≡ Ok c
 cri_encode_decode = CriLaws.encode_decode
 
 -- but for the reserved byte, which is not looked at
-pub cri_has_layout : (s : List ℕ) (c : ConnectionRequestInfo) → Bytes s → Cri.DecodePromise s (ConnectionRequestInfoAnswer.Info c)
+pub cri_has_layout : (s : List ℕ) (c : ConnectionRequestInfo) → Bytes s → Cri.DecodePromise s (Ok c)
     → take 4 s ≡ put Cri.fields (4 ∷ c.connection_type ∷ c.knx_layer ∷ get_or s 3 0 ∷ [])
 cri_has_layout = CriLaws.has_layout
 
-pub connection_header_encode_decode : (h : ConnectionHeader) (b : List ℕ) (n : ℕ) (after : List ℕ) (r : ConnectionHeaderAnswer)
-    → Connection.EncodePromise h b (Written.Bytes n) after → Connection.DecodePromise after r → r ≡ ConnectionHeaderAnswer.Header h
+pub connection_header_encode_decode : (h : ConnectionHeader) (b : List ℕ) (n : ℕ) (after : List ℕ) (r : Result ConnectionHeader Fault)
+    → Connection.EncodePromise h b (Ok n) after → Connection.DecodePromise after r → r ≡ Ok h
 connection_header_encode_decode = ConnectionLaws.encode_decode
 
 -- but for the length byte and the reserved byte, which are not looked at
-pub connection_header_has_layout : (s : List ℕ) (h : ConnectionHeader) → Bytes s → Connection.DecodePromise s (ConnectionHeaderAnswer.Header h)
+pub connection_header_has_layout : (s : List ℕ) (h : ConnectionHeader) → Bytes s → Connection.DecodePromise s (Ok h)
     → take 4 s ≡ put Connection.fields (get_or s 0 0 ∷ h.channel_id ∷ h.sequence_counter ∷ get_or s 3 0 ∷ [])
 connection_header_has_layout = ConnectionLaws.has_layout
 
@@ -269,7 +251,7 @@ pub status_has_layout : (s : List ℕ) (channel code : ℕ) → Bytes s → Chan
 status_has_layout = ChannelLaws.has_layout
 
 -- but for the two bytes of the connection header that are not looked at
-pub ack_has_layout : (s : List ℕ) (a : TunnelingAck) → Bytes s → TunnelingAck.ParsePromise s (TunnelingAckAnswer.Ack a)
+pub ack_has_layout : (s : List ℕ) (a : TunnelingAck) → Bytes s → TunnelingAck.ParsePromise s (Ok a)
     → take 5 s ≡ put TunnelingAck.fields (get_or s 0 0 ∷ a.connection_header.channel_id ∷ a.connection_header.sequence_counter ∷ get_or s 3 0 ∷ a.status ∷ [])
 ack_has_layout = TunnelingAckLaws.has_layout
 
@@ -277,26 +259,26 @@ ack_has_layout = TunnelingAckLaws.has_layout
 
 -- n bytes were counted and p is what parsing the buffer answered: the count is right, p is the frame, and of its body the record is read back (`Reads`, beside each record)
 
-pub ack_round_trip : (a : TunnelingAck) (b : List ℕ) (n : ℕ) (after : List ℕ) (p : FrameAnswer)
-    → TunnelingAck.BuildPromise a b (Written.Bytes n) after → Frame.ParsePromise after p → Carries ServiceType.TunnellingAck 11 n after p (TunnelingAckLaws.Reads a)
+pub ack_round_trip : (a : TunnelingAck) (b : List ℕ) (n : ℕ) (after : List ℕ) (p : Result FrameFields Fault)
+    → TunnelingAck.BuildPromise a b (Ok n) after → Frame.ParsePromise after p → Carries ServiceType.TunnellingAck 11 n after p (TunnelingAckLaws.Reads a)
 ack_round_trip = TunnelingAckLaws.round_trip
 
-pub tunnel_request_round_trip : (t : TunnelingRequest) (cemi b : List ℕ) (n : ℕ) (after : List ℕ) (p : FrameAnswer)
-    → TunnelingRequest.BuildPromise t cemi b (Written.Bytes n) after → Frame.ParsePromise after p → Carries ServiceType.TunnellingRequest (10 + length cemi) n after p (TunnelingRequestLaws.Reads t cemi)
+pub tunnel_request_round_trip : (t : TunnelingRequest) (cemi b : List ℕ) (n : ℕ) (after : List ℕ) (p : Result FrameFields Fault)
+    → TunnelingRequest.BuildPromise t cemi b (Ok n) after → Frame.ParsePromise after p → Carries ServiceType.TunnellingRequest (10 + length cemi) n after p (TunnelingRequestLaws.Reads t cemi)
 tunnel_request_round_trip = TunnelingRequestLaws.round_trip
 
 -- both endpoints and the request information
-pub connect_request_round_trip : (q : ConnectRequest) (b : List ℕ) (n : ℕ) (after : List ℕ) (p : FrameAnswer) → ConnectRequestLaws.Proper q
-    → ConnectRequest.BuildPromise q b (Written.Bytes n) after → Frame.ParsePromise after p → Carries ServiceType.ConnectRequest 26 n after p (ConnectRequestLaws.Reads q)
+pub connect_request_round_trip : (q : ConnectRequest) (b : List ℕ) (n : ℕ) (after : List ℕ) (p : Result FrameFields Fault) → ConnectRequestLaws.Proper q
+    → ConnectRequest.BuildPromise q b (Ok n) after → Frame.ParsePromise after p → Carries ServiceType.ConnectRequest 26 n after p (ConnectRequestLaws.Reads q)
 connect_request_round_trip = ConnectRequestLaws.round_trip
 
 -- channel and endpoint
-pub state_request_round_trip : (q : ConnectionStateRequest) (b : List ℕ) (n : ℕ) (after : List ℕ) (p : FrameAnswer) → HpaiLaws.Proper q.control_endpoint
-    → Channel.StateBuildPromise q b (Written.Bytes n) after → Frame.ParsePromise after p → Carries ServiceType.ConnectionstateRequest 16 n after p (ChannelLaws.Reads q.channel_id q.control_endpoint)
+pub state_request_round_trip : (q : ConnectionStateRequest) (b : List ℕ) (n : ℕ) (after : List ℕ) (p : Result FrameFields Fault) → HpaiLaws.Proper q.control_endpoint
+    → Channel.StateBuildPromise q b (Ok n) after → Frame.ParsePromise after p → Carries ServiceType.ConnectionstateRequest 16 n after p (ChannelLaws.Reads q.channel_id q.control_endpoint)
 state_request_round_trip q = ChannelLaws.round_trip ServiceType.ConnectionstateRequest q.channel_id q.control_endpoint
 
-pub disconnect_request_round_trip : (q : DisconnectRequest) (b : List ℕ) (n : ℕ) (after : List ℕ) (p : FrameAnswer) → HpaiLaws.Proper q.control_endpoint
-    → Channel.DisconnectBuildPromise q b (Written.Bytes n) after → Frame.ParsePromise after p → Carries ServiceType.DisconnectRequest 16 n after p (ChannelLaws.Reads q.channel_id q.control_endpoint)
+pub disconnect_request_round_trip : (q : DisconnectRequest) (b : List ℕ) (n : ℕ) (after : List ℕ) (p : Result FrameFields Fault) → HpaiLaws.Proper q.control_endpoint
+    → Channel.DisconnectBuildPromise q b (Ok n) after → Frame.ParsePromise after p → Carries ServiceType.DisconnectRequest 16 n after p (ChannelLaws.Reads q.channel_id q.control_endpoint)
 disconnect_request_round_trip q = ChannelLaws.round_trip ServiceType.DisconnectRequest q.channel_id q.control_endpoint
 
 -- ---- cemi.rs: control fields
@@ -321,19 +303,19 @@ apci_never_unknown = PciLaws.never_unknown
 -- ---- cemi.rs: cEMI and L_Data
 
 -- what is accepted starts with the layout of the record, and its values are those that stand in the bytes
-pub cemi_has_layout : (s : List ℕ) (f : CEMIFrame) → Bytes s → Cemi.ParsePromise s (CEMIAnswer.Frame f)
+pub cemi_has_layout : (s : List ℕ) (f : CEMIFrame) → Bytes s → Cemi.ParsePromise s (Ok f)
     → take 2 s ≡ put Cemi.fields (MessageCodes.code_of f.message_code ∷ Cemi.info_length s ∷ [])
 cemi_has_layout = CemiLaws.has_layout
 
-pub ldata_has_layout : (s : List ℕ) (f : LDataFields) → Bytes s → LData.ParsePromise s (LDataAnswer.Frame f)
+pub ldata_has_layout : (s : List ℕ) (f : LDataFields) → Bytes s → LData.ParsePromise s (Ok f)
     → take 8 s ≡ put LData.fields (f.ctrl1.raw ∷ f.ctrl2.raw ∷ f.source.0 ∷ f.destination_raw ∷ f.npdu_length ∷ get_or s 7 0 ∷ [])
 ldata_has_layout s f b p = LDataLaws.has_layout crate_count s f p (lawful Crate) b
 
-pub ldata-reads : (s : List ℕ) (f : LDataFields) → LData.ParsePromise s (LDataAnswer.Frame f) → LData.values f ≡ LData.values_in crate_count s
+pub ldata-reads : (s : List ℕ) (f : LDataFields) → LData.ParsePromise s (Ok f) → LData.values f ≡ LData.values_in crate_count s
 ldata-reads = LDataLaws.read crate_count
 
 -- a control packet is never a group read, although its code is a group read's
-pub control_never_reads : (s : List ℕ) (f : LDataFields) (r : Bool) → LData.ParsePromise s (LDataAnswer.Frame f) → LData.data_byte (get_or s 7 0) ≡ false → LData.IsServicePromise 0x000 f r → r ≡ false
+pub control_never_reads : (s : List ℕ) (f : LDataFields) (r : Bool) → LData.ParsePromise s (Ok f) → LData.data_byte (get_or s 7 0) ≡ false → LData.IsServicePromise 0x000 f r → r ≡ false
 control_never_reads s f = LDataLaws.control_never crate_count (lawful Crate) s f 0x000
 
 -- the three questions of a service are by its name: a yes says which variant it is
@@ -348,12 +330,12 @@ is_group_response f p = PciLaws.named_is f.apci 0x040 (sym p)
 
 -- ---- the L_Data builder, with no premise but that it answered
 
-pub ldata_build_parse : (b : LDataBuilder) (d buf : List ℕ) (n : ℕ) (after : List ℕ) (r : LDataAnswer)
-    → LDataBuilder.BuildPromise b d buf (Written.Bytes n) after → LData.ParsePromise after r → r ≡ LDataAnswer.Frame (LDataRoundTrip.built b (length d + 2))
+pub ldata_build_parse : (b : LDataBuilder) (d buf : List ℕ) (n : ℕ) (after : List ℕ) (r : Result LDataFields Fault)
+    → LDataBuilder.BuildPromise b d buf (Ok n) after → LData.ParsePromise after r → r ≡ Ok (LDataRoundTrip.built b (length d + 2))
 ldata_build_parse b d buf n after r q p = LDataRoundTrip.parsed Crate b d buf n after q r p
 
 pub ldata_round_trip : (b : LDataBuilder) (d buf : List ℕ) (n : ℕ) (after : List ℕ) (f : LDataFields) (part : List ℕ) (six : ℕ)
-    → LDataBuilder.BuildPromise b d buf (Written.Bytes n) after → LData.ParsePromise after (LDataAnswer.Frame f) → LData.DataPartPromise f after part
+    → LDataBuilder.BuildPromise b d buf (Ok n) after → LData.ParsePromise after (Ok f) → LData.DataPartPromise f after part
     → Application.SixBitPromise (get_or after 8 0) six → LDataRoundTrip.Back crate_count b d n f part six
 ldata_round_trip b d buf n after f part six q p taken sixth = LDataRoundTrip.round_trip Crate b d buf n after q f part six p taken sixth
 
@@ -362,20 +344,20 @@ ldata_round_trip b d buf n after f part six q p taken sixth = LDataRoundTrip.rou
 pub borrowed_body : (s : List ℕ) (f : KnxnetIpFrame) (r : List ℕ) → KnxnetIpFrame.ParsePromise s f → KnxnetIpFrame.BodyPromise f r → KnxnetIpFrame.BodyInPromise s r
 borrowed_body = KnxnetIpFrameLaws.body_in
 
-pub borrowed_data : (s : List ℕ) (f : LDataFields) → LData.ParsePromise s (LDataAnswer.Frame f) → shown s (LData.data_by01 crate_count f s) ≡ LDataFrame.data_in s
+pub borrowed_data : (s : List ℕ) (f : LDataFields) → LData.ParsePromise s (Ok f) → shown s (LData.data_by01 crate_count f s) ≡ LDataFrame.data_in s
 borrowed_data = LDataFrameLaws.fields_data Crate
 
 pub borrowed_record_data : (s : List ℕ) (f : LDataFrame) (r : List ℕ) → LDataFrame.ParsePromise s f → LDataFrame.DataPromise f r → LDataFrame.DataInPromise s r
 borrowed_record_data = LDataFrameLaws.data_in_lem Crate
 
 -- the view of a frame is the one that `FrameFields::body` answers
-pub border_body : (s : List ℕ) (r : KnxFrame) (f : FrameFields) (v : View) → KnxReading.FramePromise s r → Frame.ParsePromise s (FrameAnswer.Frame f) → Frame.BodyPromise f s v
+pub border_body : (s : List ℕ) (r : KnxFrame) (f : FrameFields) (v : Result View Fault) → KnxReading.FramePromise s r → Frame.ParsePromise s (Ok f) → Frame.BodyPromise f s v
     → (r.start ≡ v.start) × (r.end ≡ v.end)
 border_body = KnxReadingLaws.body_as
 
 -- the numbers of `knx_cemi_ldata` are those of the records that `parse`, `as_ldata` and `data` answer
-pub border_ldata : (s : List ℕ) (r : KnxLData) (f : CEMIFrame) (g : LDataFields) (v : View)
-    → CemiLData.CemiLDataPromise s r → Cemi.ParsePromise s (CEMIAnswer.Frame f) → Cemi.AsLDataPromise f s (LDataAnswer.Frame g) → LData.DataPromise g (Cemi.service_info s) v
+pub border_ldata : (s : List ℕ) (r : KnxLData) (f : CEMIFrame) (g : LDataFields) (v : Result View Fault)
+    → CemiLData.CemiLDataPromise s r → Cemi.ParsePromise s (Ok f) → Cemi.AsLDataPromise f s (Ok g) → LData.DataPromise g (Cemi.service_info s) v
     → CemiLData.told r ≡ record {
       number = 0;
       values =

@@ -1,5 +1,5 @@
 -- Demand 3, of the compiled table: tunnels in one table do not disturb each other. Calls carry raw datagrams and whole lent outputs; whose call it is, is computed from the bytes; a trace has number, what is said, count, view, offset, the whole output, and what is left of the channel.
-use Rattle.std.specs.Prelude.{ℕ, ◌+◌, ◌≤◌, ◌≡◌, refl, List, [], length, get_or, drop}
+use Rattle.std.specs.Prelude.{ℕ, ◌+◌, ◌≤◌, ◌≡◌, refl, List, [], length, get_or, drop, Ok}
 use Rattle.std.proofs.Common.{arith, sym, ap, subst, ◌∙◌}
 use Rattle.std.proofs.Math.Option.{none, some}
 use Rattle.wire.specs.Parts.{part_of}
@@ -8,11 +8,9 @@ use Rattle.tunnel_datagram.specs.declared.hearing.Heard.TheVariants.{Request, Ac
 use Rattle.tunnel_datagram.specs.WrittenHeard as WrittenHeard
 use Rattle.frame.specs.Frame as Frame
 use Rattle.frame.specs.declared.frame.FrameFields.{FrameFields}
-use Rattle.frame.specs.declared.frame.FrameAnswer.TheVariants as FrameAnswer
 use Rattle.tunnelling.specs.Request as TunnelingRequest
 use Rattle.tunnelling.specs.declared.form.Form.TheVariants.{Crate}
 use Rattle.tunnelling.specs.declared.request.TunnelingRequest.{TunnelingRequest}
-use Rattle.tunnelling.specs.declared.request.TunnelingRequestAnswer.TheVariants as TunnelingRequestAnswer
 use Rattle.tunnel.specs.declared.rules.Tunnel.{Tunnel}
 use Rattle.tunnel_model.specs.Firsts.{count_of}
 use Rattle.tunnel_model.specs.Store.{IsolatesAt, Isolates, Opening, Opens, reached, names, table_trace, lone_trace, calls_of}
@@ -156,6 +154,6 @@ ack-heard t channel n end bytes out is z w = Exchange.ack-heard Crate t channel 
 
 -- the cEMI that is heard is the part that the frame's parse and the body's hand out
 pub cemi_same : (s : List ℕ) (f : FrameFields) (body : List ℕ) (q : TunnelingRequest) (cemi : List ℕ)
-    → Frame.ParsePromise s (FrameAnswer.Frame f) → Frame.BodyPartPromise f s body → TunnelingRequest.ParsePromise body (TunnelingRequestAnswer.Request q) → TunnelingRequest.CemiPartPromise body cemi
+    → Frame.ParsePromise s (Ok f) → Frame.BodyPartPromise f s body → TunnelingRequest.ParsePromise body (Ok q) → TunnelingRequest.CemiPartPromise body cemi
     → cemi ≡ part_of s cemi_start f.header.total_length
 cemi_same = WrittenHeard.cemi_same

@@ -1,9 +1,8 @@
 -- The empty versions that 01 shuts out, each by the predicate that ours has: demand 2 for parsers and builders, demand 3 for tables.
-use Rattle.std.specs.Prelude.{ℕ, suc, ◌≤◌, ◌≡◌, refl, Bool, true, false, List, [], ◌∷◌, ◌++◌, length, get_or, drop, replicate, eqb}
+use Rattle.std.specs.Prelude.{ℕ, suc, ◌≤◌, ◌≡◌, refl, Bool, true, false, List, [], ◌∷◌, ◌++◌, length, get_or, drop, replicate, eqb, Ok}
 use Rattle.std.proofs.Common.{arith, sym, ap, subst, ◌∙◌, get_or-take, get_or-drop, eq-eqb, le-ltb}
 use Rattle.std.proofs.Math.Option.{none}
 use Rattle.wire.specs.Told.{Told, done, verdict}
-use Rattle.wire.specs.declared.refusals.Verdict.TheVariants.{Accept}
 use Rattle.wire.specs.declared.refusals.Refusal.TheVariants.{TableFull}
 use Rattle.constants.specs.declared.services.ServiceType.{ServiceType}
 use Rattle.constants.specs.declared.services.ServiceType.TheVariants.{TunnellingRequest}
@@ -84,7 +83,7 @@ writing control_1 = record {
 }
 
 -- with room for its nine bytes it is taken, in either count
-writing_proper : (c : Counting) (control_1 m : ℕ) → 9 ≤ m → verdict (LDataBuilder.checks_in (count_by c) (writing control_1) 0 m) ≡ Accept
+writing_proper : (c : Counting) (control_1 m : ℕ) → 9 ≤ m → verdict (LDataBuilder.checks_in (count_by c) (writing control_1) 0 m) ≡ Ok tt
 writing_proper Crate control_1 m h = simp (le-ltb m 9 h)
 writing_proper Standard control_1 m h = simp (le-ltb m 9 h)
 

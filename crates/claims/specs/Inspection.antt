@@ -1,8 +1,7 @@
 -- The inspection of a capture: stepping through it hands on its records, wherever its buffer is refilled, what the program's turns write is what 01 says, its calls are such turns, and 01's example, by computation.
-use Rattle.std.specs.Prelude.{ℕ, ◌+◌, ◌≤◌, ◌<◌, ◌≡◌, refl, Bool, true, false, List, [], ◌∷◌, ◌++◌, length, take, drop, replicate}
+use Rattle.std.specs.Prelude.{ℕ, ◌+◌, ◌≤◌, ◌<◌, ◌≡◌, refl, Bool, true, false, List, [], ◌∷◌, ◌++◌, length, take, drop, replicate, Ok}
 use Rattle.std.proofs.Common.{arith}
 use Rattle.wire.specs.LayoutLaws.{Bytes}
-use Rattle.wire.specs.declared.refusals.Written.TheVariants as Written
 use Rattle.kip.specs.Capture.{starts_by01, whole, records_of, unfinished_of, NextPromise}
 use Rattle.kip.specs.CaptureLaws as CaptureLaws
 use Rattle.kip.specs.Stepping.{Move, Named, HandedOn, begun, ran}
@@ -71,7 +70,7 @@ pub scan_steps : (i : Inspecting) (r : Scanned) (after : List ℕ) → ScanPromi
     → stepped i ScanOn ≡ record { buffer = i.buffer; ahead = i.ahead; spot = r.spot; out = after; written = i.written }
 scan_steps = Inspecting.scan_steps
 
-pub ending_writes : (n : ℕ) (cut : Bool) (out : List ℕ) (k : ℕ) (after : List ℕ) → EndingPromise n cut out (Written.Bytes k) after → take k after ≡ ending_of n cut
+pub ending_writes : (n : ℕ) (cut : Bool) (out : List ℕ) (k : ℕ) (after : List ℕ) → EndingPromise n cut out (Ok k) after → take k after ≡ ending_of n cut
 ending_writes = Inspecting.ending_writes
 
 -- ---- the program's buffers

@@ -1,14 +1,12 @@
 -- Names and numbers, typed once more from 01 and the KNX documents: each variant of each enum with its number, and each bit of the control fields. Two names exchanged in definition, code and law alike are found here.
-use Rattle.std.specs.Prelude.{ℕ, ◌≡◌, refl, true, false}
+use Rattle.std.specs.Prelude.{ℕ, ◌≡◌, refl, true, false, Ok, Err, Some, None}
 use Rattle.wire.specs.Told.{nowhere}
 use Rattle.wire.specs.Refusals.{NumberPromise}
 use Rattle.wire.specs.declared.refusals.Refusal.TheVariants.{BufferTooSmall, InvalidFrame, UnsupportedVersion, UnsupportedServiceType, PayloadTooLarge, InvalidMessageCode, AlreadyOpen, TableFull, NotOpen, AwaitsAck, AwaitsNothing, NotForTunnels, FieldOutOfRange, InvalidAdditionalInfo}
 use Rattle.constants.specs.Services as Services
 use Rattle.constants.specs.declared.services.ServiceType.TheVariants as ServiceType
-use Rattle.constants.specs.declared.services.ServiceAnswer.TheVariants as ServiceAnswer
 use Rattle.constants.specs.MessageCodes as MessageCodes
 use Rattle.constants.specs.declared.message_codes.CEMIMessageCode.TheVariants as CEMIMessageCode
-use Rattle.constants.specs.declared.message_codes.CEMIMessageCodeAnswer.TheVariants as CEMIMessageCodeAnswer
 use Rattle.constants.specs.Priorities as Priorities
 use Rattle.constants.specs.declared.priorities.Priority.TheVariants as Priority
 use Rattle.control.specs.First as First
@@ -22,8 +20,6 @@ use Rattle.pci.specs.declared.application.Apci.{Apci}
 use Rattle.pci.specs.declared.application.Apci.TheVariants as Apci
 use Rattle.ldata.specs.LData as LData
 use Rattle.ldata.specs.declared.ldata.LDataFields.{LDataFields}
-use Rattle.ldata.specs.declared.destination.GroupAddressAnswer.TheVariants as GroupAddressAnswer
-use Rattle.ldata.specs.declared.destination.IndividualAddressAnswer.TheVariants as IndividualAddressAnswer
 use Rattle.cemi.specs.Cemi as Cemi
 use Rattle.additional_info.specs.InfoType as InfoType
 use Rattle.additional_info.specs.declared.info_type.AdditionalInfoType.TheVariants as AdditionalInfoType
@@ -68,16 +64,16 @@ refusal-numbers = record {
 
 -- what `from_u16` answers to each code of 01, and to two that the published crate knows
 pub record ServiceNames : Type 0 where
-  pub connect_request : Services.FromPromise 0x0205 (ServiceAnswer.Service ServiceType.ConnectRequest)
-  pub connect_response : Services.FromPromise 0x0206 (ServiceAnswer.Service ServiceType.ConnectResponse)
-  pub state_request : Services.FromPromise 0x0207 (ServiceAnswer.Service ServiceType.ConnectionstateRequest)
-  pub state_response : Services.FromPromise 0x0208 (ServiceAnswer.Service ServiceType.ConnectionstateResponse)
-  pub disconnect_request : Services.FromPromise 0x0209 (ServiceAnswer.Service ServiceType.DisconnectRequest)
-  pub disconnect_response : Services.FromPromise 0x020A (ServiceAnswer.Service ServiceType.DisconnectResponse)
-  pub tunnelling_request : Services.FromPromise 0x0420 (ServiceAnswer.Service ServiceType.TunnellingRequest)
-  pub tunnelling_ack : Services.FromPromise 0x0421 (ServiceAnswer.Service ServiceType.TunnellingAck)
-  pub search_request : Services.FromPromise 0x0201 (ServiceAnswer.Refused (nowhere UnsupportedServiceType))
-  pub routing_indication : Services.FromPromise 0x0530 (ServiceAnswer.Refused (nowhere UnsupportedServiceType))
+  pub connect_request : Services.FromPromise 0x0205 (Ok ServiceType.ConnectRequest)
+  pub connect_response : Services.FromPromise 0x0206 (Ok ServiceType.ConnectResponse)
+  pub state_request : Services.FromPromise 0x0207 (Ok ServiceType.ConnectionstateRequest)
+  pub state_response : Services.FromPromise 0x0208 (Ok ServiceType.ConnectionstateResponse)
+  pub disconnect_request : Services.FromPromise 0x0209 (Ok ServiceType.DisconnectRequest)
+  pub disconnect_response : Services.FromPromise 0x020A (Ok ServiceType.DisconnectResponse)
+  pub tunnelling_request : Services.FromPromise 0x0420 (Ok ServiceType.TunnellingRequest)
+  pub tunnelling_ack : Services.FromPromise 0x0421 (Ok ServiceType.TunnellingAck)
+  pub search_request : Services.FromPromise 0x0201 (Err (nowhere UnsupportedServiceType))
+  pub routing_indication : Services.FromPromise 0x0530 (Err (nowhere UnsupportedServiceType))
 
 pub services : ServiceNames
 services = record {
@@ -94,14 +90,14 @@ services = record {
 }
 
 pub record MessageCodeNames : Type 0 where
-  pub ldata_req : MessageCodes.FromPromise 0x11 (CEMIMessageCodeAnswer.Code CEMIMessageCode.LDataReq)
-  pub ldata_ind : MessageCodes.FromPromise 0x29 (CEMIMessageCodeAnswer.Code CEMIMessageCode.LDataInd)
-  pub ldata_con : MessageCodes.FromPromise 0x2E (CEMIMessageCodeAnswer.Code CEMIMessageCode.LDataCon)
-  pub lraw_req : MessageCodes.FromPromise 0x10 (CEMIMessageCodeAnswer.Code CEMIMessageCode.LRawReq)
-  pub lraw_ind : MessageCodes.FromPromise 0x2D (CEMIMessageCodeAnswer.Code CEMIMessageCode.LRawInd)
-  pub lraw_con : MessageCodes.FromPromise 0x2F (CEMIMessageCodeAnswer.Code CEMIMessageCode.LRawCon)
-  pub lbusmon_ind : MessageCodes.FromPromise 0x2B (CEMIMessageCodeAnswer.Code CEMIMessageCode.LBusmonInd)
-  pub poll_data_req : MessageCodes.FromPromise 0x13 (CEMIMessageCodeAnswer.Refused (nowhere InvalidMessageCode))
+  pub ldata_req : MessageCodes.FromPromise 0x11 (Ok CEMIMessageCode.LDataReq)
+  pub ldata_ind : MessageCodes.FromPromise 0x29 (Ok CEMIMessageCode.LDataInd)
+  pub ldata_con : MessageCodes.FromPromise 0x2E (Ok CEMIMessageCode.LDataCon)
+  pub lraw_req : MessageCodes.FromPromise 0x10 (Ok CEMIMessageCode.LRawReq)
+  pub lraw_ind : MessageCodes.FromPromise 0x2D (Ok CEMIMessageCode.LRawInd)
+  pub lraw_con : MessageCodes.FromPromise 0x2F (Ok CEMIMessageCode.LRawCon)
+  pub lbusmon_ind : MessageCodes.FromPromise 0x2B (Ok CEMIMessageCode.LBusmonInd)
+  pub poll_data_req : MessageCodes.FromPromise 0x13 (Err (nowhere InvalidMessageCode))
   -- L_Data is asked of the name
   pub is_req : Cemi.IsLDataPromise (record { message_code = CEMIMessageCode.LDataReq }) true
   pub is_ind : Cemi.IsLDataPromise (record { message_code = CEMIMessageCode.LDataInd }) true
@@ -306,10 +302,10 @@ pub record Asked : Type 0 where
   pub read_control : LData.IsServicePromise 0x000 (asking 0xE0 (Apci.Control 0)) false
   pub response : LData.IsServicePromise 0x040 (asking 0xE0 Apci.GroupValueResponse) true
   pub response_read : LData.IsServicePromise 0x040 (asking 0xE0 Apci.GroupValueRead) false
-  pub to_group : LData.DestinationGroupPromise (asking 0x80 Apci.GroupValueWrite) (GroupAddressAnswer.Address (record { 0 = 0x0803 }))
-  pub to_no_group : LData.DestinationGroupPromise (asking 0x7F Apci.GroupValueWrite) GroupAddressAnswer.None
-  pub to_device : LData.DestinationIndividualPromise (asking 0x7F Apci.GroupValueWrite) (IndividualAddressAnswer.Address (record { 0 = 0x0803 }))
-  pub to_no_device : LData.DestinationIndividualPromise (asking 0x80 Apci.GroupValueWrite) IndividualAddressAnswer.None
+  pub to_group : LData.DestinationGroupPromise (asking 0x80 Apci.GroupValueWrite) (Some (record { 0 = 0x0803 }))
+  pub to_no_group : LData.DestinationGroupPromise (asking 0x7F Apci.GroupValueWrite) None
+  pub to_device : LData.DestinationIndividualPromise (asking 0x7F Apci.GroupValueWrite) (Some (record { 0 = 0x0803 }))
+  pub to_no_device : LData.DestinationIndividualPromise (asking 0x80 Apci.GroupValueWrite) None
 
 pub asked : Asked
 asked = record {

@@ -1,5 +1,5 @@
 -- 01's orders of checks and its "errors to expect", as rows: where two checks are broken, the earlier one decides.
-use Rattle.std.specs.Prelude.{ℕ, ◌≡◌, refl, List, [], ◌∷◌, ◌++◌, replicate}
+use Rattle.std.specs.Prelude.{ℕ, ◌≡◌, refl, List, [], ◌∷◌, ◌++◌, replicate, Ok, Err}
 use Rattle.wire.specs.Told.{Told, done, viewed}
 use Rattle.wire.specs.Writing.{tells}
 use Rattle.wire.specs.declared.refusals.Refusal.TheVariants.{InvalidMessageCode}
@@ -14,7 +14,6 @@ use Rattle.ldata.specs.Builder as LDataBuilder
 use Rattle.pci.specs.declared.application.Apci.TheVariants.{GroupValueWrite}
 use Rattle.borrowed.specs.LDataFrame as LDataFrame
 use Rattle.cemi.specs.Cemi as Cemi
-use Rattle.cemi.specs.declared.InfoLengthAnswer.TheVariants as InfoLengthAnswer
 use Rattle.header.specs.Header as Header
 use Rattle.hpai.specs.Hpai as Hpai
 use Rattle.connect.specs.Cri as Cri
@@ -124,8 +123,8 @@ pub record Order : Type 0 where
   pub info_before_ldata : in_cemi LDataInd (0x29 ∷ 0x00 ∷ replicate 8 0) ≡ 1
   pub record_decides : in_cemi LRawInd (0x29 ∷ 0x00 ∷ nine_bytes 2 0x00) ≡ 6
   pub slice_first : in_cemi LRawInd (0x13 ∷ []) ≡ 1
-  pub info_length_code : Cemi.InfoLengthPromise (0x13 ∷ 0x05 ∷ []) (InfoLengthAnswer.Refused (record { why = InvalidMessageCode; at = 0 }))
-  pub info_length_known : Cemi.InfoLengthPromise (0x2D ∷ 0x05 ∷ []) (InfoLengthAnswer.Length 5)
+  pub info_length_code : Cemi.InfoLengthPromise (0x13 ∷ 0x05 ∷ []) (Err (record { why = InvalidMessageCode; at = 0 }))
+  pub info_length_known : Cemi.InfoLengthPromise (0x2D ∷ 0x05 ∷ []) (Ok 5)
   -- L_Data: nine bytes for control packets too; data needs L of 2, control packets of 1
   pub control_of_8 : as_ldata (0x94 ∷ 0xE0 ∷ 0x11 ∷ 0x05 ∷ 0x08 ∷ 0x03 ∷ 0x00 ∷ 0x80 ∷ []) ≡ 1
   pub data_L0 : as_ldata (nine_bytes 0 0x00) ≡ 2

@@ -1,5 +1,5 @@
 -- 01, "Cases on both sides": the P rows, proved together as one table.
-use Rattle.std.specs.Prelude.{ℕ, ◌≡◌, refl, List, [], ◌∷◌, get_or}
+use Rattle.std.specs.Prelude.{ℕ, ◌≡◌, refl, List, [], ◌∷◌, get_or, Ok}
 use Rattle.std.proofs.Math.Option.{some}
 use Rattle.wire.specs.Told.{Told, viewed}
 use Rattle.wire.specs.Parts.{shown}
@@ -11,11 +11,9 @@ use Rattle.pci.specs.declared.application.Apci.TheVariants.{GroupValueWrite, Unk
 use Rattle.ldata.specs.Count.{crate_count}
 use Rattle.ldata.specs.LData as LData
 use Rattle.ldata.specs.declared.ldata.LDataFields.{LDataFields}
-use Rattle.ldata.specs.declared.ldata.LDataAnswer.TheVariants as LDataAnswer
 use Rattle.header.specs.Header as Header
 use Rattle.frame.specs.Frame as Frame
 use Rattle.frame.specs.RoundTrip.{built}
-use Rattle.frame.specs.declared.frame.FrameAnswer.TheVariants.{Frame}
 use Rattle.tunnel.specs.declared.rules.Wait.{Wait}
 use Rattle.tunnel.specs.declared.rules.Said.TheVariants.{Deliver}
 use Rattle.tunnel_model.specs.Store.{step}
@@ -28,7 +26,7 @@ use Rattle.tunnel_table.specs.declared.places.Place.{Place}
 use Rattle.claims.specs.Examples.{request, room}
 
 abbrev as_frame : List ℕ → ℕ
-as_frame s = (Frame.parse_by01 s).number
+as_frame s = (Ok.parse_by01 s).number
 
 abbrev as_header : List ℕ → ℕ
 as_header s = (Header.parse_by01 s).number
@@ -71,14 +69,14 @@ pub record P : Type 0 where
   pub service : as_frame (0x06 ∷ 0x10 ∷ 0xFF ∷ 0xFF ∷ 0x00 ∷ 0x06 ∷ []) ≡ 4
   pub total_as_frame : as_frame (0x06 ∷ 0x10 ∷ 0x04 ∷ 0x20 ∷ 0x00 ∷ 0x05 ∷ []) ≡ 2
   pub total_as_header : as_header (0x06 ∷ 0x10 ∷ 0x04 ∷ 0x20 ∷ 0x00 ∷ 0x05 ∷ []) ≡ 0
-  pub bare-frame : Frame.parse_by01 bare ≡ Frame.told (Frame (built TunnellingRequest []))
-  pub bare-body : Frame.body_by01 (built TunnellingRequest []) bare ≡ viewed 6 6
+  pub bare-frame : Ok.parse_by01 bare ≡ Ok.told (Ok (built TunnellingRequest []))
+  pub bare-body : Ok.body_by01 (built TunnellingRequest []) bare ≡ viewed 6 6
   pub bare_datagram : (l : List Place) (out : List ℕ) → step chan (store_of kind) l (Datagram bare out) ≡ (refuses_at (record { why = BufferTooSmall; at = 6 }) out, l)
-  pub write_2A : as_ldata (ldata 3 (0x00 ∷ 0x80 ∷ 0x2A ∷ [])) ≡ LData.told (LDataAnswer.Frame (group_write 3))
+  pub write_2A : as_ldata (ldata 3 (0x00 ∷ 0x80 ∷ 0x2A ∷ [])) ≡ LData.told (Ok (group_write 3))
   pub write_2A_data : data_in (group_write 3) (ldata 3 (0x00 ∷ 0x80 ∷ 0x2A ∷ [])) ≡ 0x2A ∷ []
   pub write_L4 : (as_ldata (ldata 4 (0x00 ∷ 0x80 ∷ 0x2A ∷ []))).number ≡ 2
   pub write_L1 : (as_ldata (ldata 1 (0x00 ∷ 0x81 ∷ []))).number ≡ 2
-  pub write_L2 : as_ldata (ldata 2 (0x00 ∷ 0x81 ∷ [])) ≡ LData.told (LDataAnswer.Frame (group_write 2))
+  pub write_L2 : as_ldata (ldata 2 (0x00 ∷ 0x81 ∷ [])) ≡ LData.told (Ok (group_write 2))
   pub write_L2_data : data_in (group_write 2) (ldata 2 (0x00 ∷ 0x81 ∷ [])) ≡ []
   pub write_L2_six : SixBitPromise (get_or (ldata 2 (0x00 ∷ 0x81 ∷ [])) 8 0) 1
   pub apci_02_C0 : apci_of (code_in 0x02 0xC0) ≡ Unknown 0x2C0

@@ -1,13 +1,11 @@
 -- 02, 2/13, "Switch telegrams are refused": what both counts share, said once over the count; then rows typed from 02 and from frames of a real gateway. Over the promises that the contracts cite.
-use Rattle.std.specs.Prelude.{ℕ, ◌+◌, ◌≡◌, refl, Bool, true, false, cond, List, [], ◌∷◌, ◌++◌, length, get_or, take, replicate}
+use Rattle.std.specs.Prelude.{ℕ, ◌+◌, ◌≡◌, refl, Bool, true, false, cond, List, [], ◌∷◌, ◌++◌, length, get_or, take, replicate, Result, Ok}
 use Rattle.wire.specs.Told.{done, viewed, verdict}
 use Rattle.wire.specs.Writing.{tells}
 use Rattle.wire.specs.Places.{place}
 use Rattle.wire.specs.Layout.{put}
 use Rattle.wire.specs.LayoutLaws.{Bytes}
 use Rattle.wire.specs.declared.parts.View.{View}
-use Rattle.wire.specs.declared.refusals.Verdict.TheVariants.{Accept}
-use Rattle.wire.specs.declared.refusals.Written.TheVariants as Written
 use Rattle.constants.specs.MessageCodes as MessageCodes
 use Rattle.constants.specs.declared.message_codes.CEMIMessageCode.TheVariants.{LDataInd, LRawInd}
 use Rattle.pci.specs.Transport.{is_data}
@@ -27,11 +25,8 @@ use Rattle.ldata.specs.declared.count.Counting.{Counting}
 use Rattle.ldata.specs.declared.count.Counting.TheVariants.{Standard}
 use Rattle.ldata.specs.declared.builder.LDataBuilder.{LDataBuilder}
 use Rattle.ldata.specs.declared.ldata.LDataFields.{LDataFields}
-use Rattle.ldata.specs.declared.ldata.LDataAnswer.{LDataAnswer}
-use Rattle.ldata.specs.declared.ldata.LDataAnswer.TheVariants as LDataAnswer
 use Rattle.cemi.specs.Cemi as Cemi
 use Rattle.cemi.specs.declared.CEMIFrame.{CEMIFrame}
-use Rattle.cemi.specs.declared.CEMIAnswer.TheVariants as CEMIAnswer
 use Rattle.borrowed.specs.LDataFrame as LDataFrame
 use Rattle.borrowed.specs.LDataFrameLaws as LDataFrameLaws
 use Rattle.borrowed.specs.declared.ldata_frame.LDataFrame.{LDataFrame}
@@ -39,44 +34,45 @@ use Rattle.knx.specs.CemiLData as CemiLData
 use Rattle.knx.specs.CemiLDataLaws as CemiLDataLaws
 use Rattle.knx.specs.declared.cemi_ldata.KnxLData.{KnxLData}
 use Rattle.claims.specs.Layouts.{nines}
+use Rattle.wire.specs.declared.refusals.Fault.{Fault}
 
 -- ---- in either count: what is accepted
 
 -- up to its end it is the fields of its answer with the TPCI byte, a data packet's APCI byte, and the data
-pub has_layout : (c : Counting) (s : List ℕ) (f : LDataFields) (part : List ℕ) → Bytes s → LData.ParseInPromise c s (LDataAnswer.Frame f) → LData.DataPartInPromise c f s part
+pub has_layout : (c : Counting) (s : List ℕ) (f : LDataFields) (part : List ℕ) → Bytes s → LData.ParseInPromise c s (Ok f) → LData.DataPartInPromise c f s part
     → take ((count_by c).end_of f.npdu_length) s
     ≡ (put LData.fields (f.ctrl1.raw ∷ f.ctrl2.raw ∷ f.source.0 ∷ f.destination_raw ∷ f.npdu_length ∷ get_or s 7 0 ∷ []) ++ cond (is_data f.tpci) (get_or s 8 0 ∷ []) []) ++ part
 has_layout c s f part b p taken = LDataLaws.laid_out (count_by c) s f p (lawful c) b part taken
 
 -- its values are those that stand in the bytes, and its APCI the one that stands there: of a data packet its service, of a control packet the count's
-pub reads : (c : Counting) (s : List ℕ) (f : LDataFields) → LData.ParseInPromise c s (LDataAnswer.Frame f) → LData.values f ≡ LData.values_in (count_by c) s
+pub reads : (c : Counting) (s : List ℕ) (f : LDataFields) → LData.ParseInPromise c s (Ok f) → LData.values f ≡ LData.values_in (count_by c) s
 reads c = LDataLaws.read (count_by c)
 
-pub reads_apci : (c : Counting) (s : List ℕ) (f : LDataFields) → LData.ParseInPromise c s (LDataAnswer.Frame f)
+pub reads_apci : (c : Counting) (s : List ℕ) (f : LDataFields) → LData.ParseInPromise c s (Ok f)
     → f.apci ≡ LData.apci_in (count_by c) (LData.data_byte (get_or s 7 0)) (get_or s 7 0) (get_or s 8 0)
 reads_apci c = LDataLaws.apci_read (count_by c)
 
 -- a control packet is no group read, and no other named service
 pub control_never : (c : Counting) (s : List ℕ) (f : LDataFields) (code : ℕ) (r : Bool)
-    → LData.ParseInPromise c s (LDataAnswer.Frame f) → LData.data_byte (get_or s 7 0) ≡ false → LData.IsServicePromise code f r → r ≡ false
+    → LData.ParseInPromise c s (Ok f) → LData.data_byte (get_or s 7 0) ≡ false → LData.IsServicePromise code f r → r ≡ false
 control_never c = LDataLaws.control_never (count_by c) (lawful c)
 
 -- ---- in either count: what was built comes back, with no premise but that the builder answered
 
-pub build_parse : (c : Counting) (b : LDataBuilder) (d buf : List ℕ) (n : ℕ) (after : List ℕ) → LDataBuilder.BuildInPromise c b d buf (Written.Bytes n) after
-    → (r : LDataAnswer) → LData.ParseInPromise c after r → r ≡ LDataAnswer.Frame (LDataRoundTrip.built_in (count_by c) b (length d))
+pub build_parse : (c : Counting) (b : LDataBuilder) (d buf : List ℕ) (n : ℕ) (after : List ℕ) → LDataBuilder.BuildInPromise c b d buf (Ok n) after
+    → (r : Result LDataFields Fault) → LData.ParseInPromise c after r → r ≡ Ok (LDataRoundTrip.built_in (count_by c) b (length d))
 build_parse = LDataRoundTrip.parsed
 
-pub round_trip : (c : Counting) (b : LDataBuilder) (d buf : List ℕ) (n : ℕ) (after : List ℕ) → LDataBuilder.BuildInPromise c b d buf (Written.Bytes n) after
-    → (f : LDataFields) (part : List ℕ) (six : ℕ) → LData.ParseInPromise c after (LDataAnswer.Frame f) → LData.DataPartInPromise c f after part → Application.SixBitPromise (get_or after 8 0) six
+pub round_trip : (c : Counting) (b : LDataBuilder) (d buf : List ℕ) (n : ℕ) (after : List ℕ) → LDataBuilder.BuildInPromise c b d buf (Ok n) after
+    → (f : LDataFields) (part : List ℕ) (six : ℕ) → LData.ParseInPromise c after (Ok f) → LData.DataPartInPromise c f after part → Application.SixBitPromise (get_or after 8 0) six
     → LDataRoundTrip.Back (count_by c) b d n f part six
 round_trip = LDataRoundTrip.round_trip
 
 -- a control packet is taken exactly if it has no data, a sequence up to 15, a control code up to 3, and room for 8 bytes
-pub control-taken : (b : LDataBuilder) (n m : ℕ) → LDataBuilderLaws.BuildsControl b n m → verdict (LDataBuilder.control_checks b n m) ≡ Accept
+pub control-taken : (b : LDataBuilder) (n m : ℕ) → LDataBuilderLaws.BuildsControl b n m → verdict (LDataBuilder.control_checks b n m) ≡ Ok tt
 control-taken = LDataBuilderLaws.control-stands
 
-pub taken-control : (b : LDataBuilder) (n m : ℕ) → verdict (LDataBuilder.control_checks b n m) ≡ Accept → LDataBuilderLaws.BuildsControl b n m
+pub taken-control : (b : LDataBuilder) (n m : ℕ) → verdict (LDataBuilder.control_checks b n m) ≡ Ok tt → LDataBuilderLaws.BuildsControl b n m
 taken-control = LDataBuilderLaws.control-accepted
 
 -- ---- in either count: the record that holds its data, and the border
@@ -85,8 +81,8 @@ pub borrowed_data : (c : Counting) (s : List ℕ) (f : LDataFrame) (r : List ℕ
 borrowed_data = LDataFrameLaws.data_in_lem
 
 -- the numbers of `knx_cemi_ldata_standard` are those of the records that `parse`, `as_ldata_in` and `data_in` answer
-pub border : (s : List ℕ) (r : KnxLData) (f : CEMIFrame) (g : LDataFields) (v : View)
-    → CemiLData.CemiLDataStandardPromise s r → Cemi.ParsePromise s (CEMIAnswer.Frame f) → Cemi.AsLDataInPromise Standard f s (LDataAnswer.Frame g) → LData.DataInPromise Standard g (Cemi.service_info s) v
+pub border : (s : List ℕ) (r : KnxLData) (f : CEMIFrame) (g : LDataFields) (v : Result View Fault)
+    → CemiLData.CemiLDataStandardPromise s r → Cemi.ParsePromise s (Ok f) → Cemi.AsLDataInPromise Standard f s (Ok g) → LData.DataInPromise Standard g (Cemi.service_info s) v
     → CemiLData.told r ≡ record {
       number = 0;
       values =
@@ -142,10 +138,10 @@ in_cemi f s = (Cemi.as_ldata_in standard_count f s).number
 
 pub record Frames : Type 0 where
   -- a switch, and 21.00 degrees, in their cEMI frames
-  pub switch : Cemi.AsLDataInPromise Standard indication (0x29 ∷ 0x00 ∷ to_group 1 (0x00 ∷ 0x81 ∷ [])) (LDataAnswer.Frame (group_write 1))
+  pub switch : Cemi.AsLDataInPromise Standard indication (0x29 ∷ 0x00 ∷ to_group 1 (0x00 ∷ 0x81 ∷ [])) (Ok (group_write 1))
   pub switch_data : LData.DataInPromise Standard (group_write 1) (to_group 1 (0x00 ∷ 0x81 ∷ [])) (record { number = 0; start = 9; end = 9; offset = 0 })
   pub switch_six : Application.SixBitPromise 0x81 1
-  pub reading : Cemi.AsLDataInPromise Standard indication (0x29 ∷ 0x00 ∷ to_group 3 (0x00 ∷ 0x80 ∷ 0x0C ∷ 0x1A ∷ [])) (LDataAnswer.Frame (group_write 3))
+  pub reading : Cemi.AsLDataInPromise Standard indication (0x29 ∷ 0x00 ∷ to_group 3 (0x00 ∷ 0x80 ∷ 0x0C ∷ 0x1A ∷ [])) (Ok (group_write 3))
   pub reading_data : LData.DataPartInPromise Standard (group_write 3) (to_group 3 (0x00 ∷ 0x80 ∷ 0x0C ∷ 0x1A ∷ [])) (0x0C ∷ 0x1A ∷ [])
   pub reading_held : LDataFrame.DataInCountPromise Standard (to_group 3 (0x00 ∷ 0x80 ∷ 0x0C ∷ 0x1A ∷ 0xEE ∷ [])) (0x0C ∷ 0x1A ∷ [])
   -- an extended frame with the largest L; one byte less
@@ -169,11 +165,11 @@ pub record Frames : Type 0 where
   pub info-alone : in_cemi indication (0x29 ∷ 0xFF ∷ []) ≡ 2
   pub info_before_ldata : in_cemi indication (0x29 ∷ 0x00 ∷ replicate 7 0) ≡ 1
   -- connect, disconnect, ack and nak are four answers, in 8 bytes; a sequence is read beside the code
-  pub connect : LData.ParseInPromise Standard (to_device 0 (0x80 ∷ [])) (LDataAnswer.Frame (control_to UnnumberedControl 0))
-  pub disconnect : LData.ParseInPromise Standard (to_device 0 (0x81 ∷ [])) (LDataAnswer.Frame (control_to UnnumberedControl 1))
-  pub ack : LData.ParseInPromise Standard (to_device 0 (0xC2 ∷ [])) (LDataAnswer.Frame (control_to (NumberedControl 0) 2))
-  pub nak : LData.ParseInPromise Standard (to_device 0 (0xC3 ∷ [])) (LDataAnswer.Frame (control_to (NumberedControl 0) 3))
-  pub ack_5 : LData.ParseInPromise Standard (to_device 0 (0xD6 ∷ [])) (LDataAnswer.Frame (control_to (NumberedControl 5) 2))
+  pub connect : LData.ParseInPromise Standard (to_device 0 (0x80 ∷ [])) (Ok (control_to UnnumberedControl 0))
+  pub disconnect : LData.ParseInPromise Standard (to_device 0 (0x81 ∷ [])) (Ok (control_to UnnumberedControl 1))
+  pub ack : LData.ParseInPromise Standard (to_device 0 (0xC2 ∷ [])) (Ok (control_to (NumberedControl 0) 2))
+  pub nak : LData.ParseInPromise Standard (to_device 0 (0xC3 ∷ [])) (Ok (control_to (NumberedControl 0) 3))
+  pub ack_5 : LData.ParseInPromise Standard (to_device 0 (0xD6 ∷ [])) (Ok (control_to (NumberedControl 5) 2))
   pub connect_values : LData.parse_by01 standard_count (to_device 0 (0x80 ∷ [])) ≡ done (0xB0 ∷ 0x60 ∷ 0x1105 ∷ 0x120A ∷ 0 ∷ 2 ∷ 0 ∷ 2 ∷ 0 ∷ [])
   pub connect_data : LData.data_by01 standard_count (control_to UnnumberedControl 0) (to_device 0 (0x80 ∷ [])) ≡ viewed 8 8
   pub connect_no_read : LData.IsServicePromise 0x000 (control_to UnnumberedControl 0) false
@@ -238,12 +234,12 @@ answers t code six n m = (tells (LDataBuilder.checks_in standard_count (builder 
 
 pub record Built : Type 0 where
   -- L is data + 1; a frame of no data, and one of two bytes
-  pub six-bit : LDataBuilder.BuildInPromise Standard (builder UnnumberedData 0x080 1) [] nines (Written.Bytes 9) (0xBC ∷ 0x60 ∷ 0x11 ∷ 0x05 ∷ 0x12 ∷ 0x0A ∷ 0x01 ∷ 0x00 ∷ 0x81 ∷ [])
-  pub two_bytes : LDataBuilder.BuildInPromise Standard (builder (NumberedData 5) 0x240 6) (0x0C ∷ 0x1A ∷ []) (nines ++ nines) (Written.Bytes 11)
+  pub six-bit : LDataBuilder.BuildInPromise Standard (builder UnnumberedData 0x080 1) [] nines (Ok 9) (0xBC ∷ 0x60 ∷ 0x11 ∷ 0x05 ∷ 0x12 ∷ 0x0A ∷ 0x01 ∷ 0x00 ∷ 0x81 ∷ [])
+  pub two_bytes : LDataBuilder.BuildInPromise Standard (builder (NumberedData 5) 0x240 6) (0x0C ∷ 0x1A ∷ []) (nines ++ nines) (Ok 11)
       (0xBC ∷ 0x60 ∷ 0x11 ∷ 0x05 ∷ 0x12 ∷ 0x0A ∷ 0x03 ∷ 0x56 ∷ 0x46 ∷ 0x0C ∷ 0x1A ∷ replicate 7 9)
   -- control packets in 8 bytes, the code in the two low bits
-  pub disconnect : LDataBuilder.BuildInPromise Standard (builder UnnumberedControl 1 0) [] nines (Written.Bytes 8) (0xBC ∷ 0x60 ∷ 0x11 ∷ 0x05 ∷ 0x12 ∷ 0x0A ∷ 0x00 ∷ 0x81 ∷ 9 ∷ [])
-  pub ack : LDataBuilder.BuildInPromise Standard (builder (NumberedControl 5) 2 0) [] nines (Written.Bytes 8) (0xBC ∷ 0x60 ∷ 0x11 ∷ 0x05 ∷ 0x12 ∷ 0x0A ∷ 0x00 ∷ 0xD6 ∷ 9 ∷ [])
+  pub disconnect : LDataBuilder.BuildInPromise Standard (builder UnnumberedControl 1 0) [] nines (Ok 8) (0xBC ∷ 0x60 ∷ 0x11 ∷ 0x05 ∷ 0x12 ∷ 0x0A ∷ 0x00 ∷ 0x81 ∷ 9 ∷ [])
+  pub ack : LDataBuilder.BuildInPromise Standard (builder (NumberedControl 5) 2 0) [] nines (Ok 8) (0xBC ∷ 0x60 ∷ 0x11 ∷ 0x05 ∷ 0x12 ∷ 0x0A ∷ 0x00 ∷ 0xD6 ∷ 9 ∷ [])
   -- a data packet: 13 three times, then 5, then 1
   pub sequence_16 : answers (NumberedData 16) 0x080 0 254 0 ≡ 13
   pub code_above : answers UnnumberedData 0x400 0 254 0 ≡ 13

@@ -1,5 +1,5 @@
 -- KNX's own acknowledgement and refused connect response, 03_08_04 and 03_08_02, and what a whole session needs: what both forms share, said once over the form; then rows typed from KNX and from frames of a real gateway. Over the promises that the contracts cite.
-use Rattle.std.specs.Prelude.{ℕ, ◌+◌, ◌≤◌, ◌≡◌, refl, List, [], ◌∷◌, ◌++◌, length, get_or, take, replicate}
+use Rattle.std.specs.Prelude.{ℕ, ◌+◌, ◌≤◌, ◌≡◌, refl, List, [], ◌∷◌, ◌++◌, length, get_or, take, replicate, Result, Ok}
 use Rattle.std.proofs.Math.Option.{none, some}
 use Rattle.wire.specs.Told.{Told, done, refused}
 use Rattle.wire.specs.Writing.{tells}
@@ -10,12 +10,10 @@ use Rattle.wire.specs.Parts.{part_of}
 use Rattle.wire.specs.Places.{place}
 use Rattle.wire.specs.declared.refusals.Fault.{Fault}
 use Rattle.wire.specs.declared.refusals.Refusal.TheVariants.{BufferTooSmall, InvalidFrame}
-use Rattle.wire.specs.declared.refusals.Written.TheVariants as Written
 use Rattle.constants.specs.Constants.{header_size}
 use Rattle.constants.specs.declared.services.ServiceType.TheVariants as ServiceType
 use Rattle.frame.specs.Frame as Frame
 use Rattle.frame.specs.RoundTrip.{Carries}
-use Rattle.frame.specs.declared.frame.FrameAnswer.{FrameAnswer}
 use Rattle.hpai.specs.Hpai as Hpai
 use Rattle.hpai.specs.HpaiLaws as HpaiLaws
 use Rattle.connect.specs.Response as ConnectResponse
@@ -25,7 +23,6 @@ use Rattle.connect.specs.ChannelLaws as ChannelLaws
 use Rattle.connect.specs.declared.channel.DisconnectRequest.{DisconnectRequest}
 use Rattle.connect.specs.declared.channel.DisconnectResponse.{DisconnectResponse}
 use Rattle.connect.specs.declared.response.ConnectResponse.{ConnectResponse}
-use Rattle.connect.specs.declared.response.ConnectResponseAnswer.{ConnectResponseAnswer}
 use Rattle.tunnelling.specs.AckForm.{form_by, body_size}
 use Rattle.tunnelling.specs.AckForm as AckForm
 use Rattle.tunnelling.specs.AckLaws as TunnelingAckLaws
@@ -34,8 +31,6 @@ use Rattle.tunnelling.specs.declared.form.Form.{Form}
 use Rattle.tunnelling.specs.declared.form.Form.TheVariants.{Crate, Standard}
 use Rattle.tunnelling.specs.declared.request.TunnelingRequest.{TunnelingRequest}
 use Rattle.tunnelling.specs.declared.ack.TunnelingAck.{TunnelingAck}
-use Rattle.tunnelling.specs.declared.ack.TunnelingAckAnswer.{TunnelingAckAnswer}
-use Rattle.tunnelling.specs.declared.ack.TunnelingAckAnswer.TheVariants as TunnelingAckAnswer
 use Rattle.tunnel_datagram.specs.Hearing.{cemi_start, heard_in}
 use Rattle.tunnel_datagram.specs.WrittenHeard as WrittenHeard
 use Rattle.tunnel_datagram.specs.declared.hearing.Heard.TheVariants.{Request, Ack, Refused}
@@ -51,25 +46,26 @@ use Rattle.tunnel_model.specs.Exchange as Exchange
 use Rattle.tunnel_model.specs.Table.{chan, table_of}
 use Rattle.tunnel_table.specs.Places.{kind}
 use Rattle.claims.specs.Examples.{request, room}
+use Rattle.frame.specs.declared.frame.FrameFields.{FrameFields}
 
 -- ---- an acknowledgement, in either form
 
 -- what is accepted has the layout of its answer, but for the bytes that are not looked at: the length byte, and in the crate's form the reserved one
-pub ack_has_layout : (f : Form) (s : List ℕ) (a : TunnelingAck) → Bytes s → AckForm.ParseInPromise f s (TunnelingAckAnswer.Ack a)
+pub ack_has_layout : (f : Form) (s : List ℕ) (a : TunnelingAck) → Bytes s → AckForm.ParseInPromise f s (Ok a)
     → take (body_size (form_by f)) s ≡ put (form_by f).fields ((form_by f).values_with (get_or s 0 0) (get_or s 3 0) a)
 ack_has_layout = TunnelingAckLaws.has_layout_in
 
 -- built, parsed as a frame, its body parsed in the same form: the same channel, number and status
-pub ack_round_trip : (f : Form) (a : TunnelingAck) (b : List ℕ) (n : ℕ) (after : List ℕ) (p : FrameAnswer)
-    → AckForm.BuildInPromise f a b (Written.Bytes n) after → Frame.ParsePromise after p → Carries ServiceType.TunnellingAck (header_size + body_size (form_by f)) n after p (TunnelingAckLaws.ReadsIn f a)
+pub ack_round_trip : (f : Form) (a : TunnelingAck) (b : List ℕ) (n : ℕ) (after : List ℕ) (p : Result FrameFields Fault)
+    → AckForm.BuildInPromise f a b (Ok n) after → Frame.ParsePromise after p → Carries ServiceType.TunnellingAck (header_size + body_size (form_by f)) n after p (TunnelingAckLaws.ReadsIn f a)
 ack_round_trip = TunnelingAckLaws.round_trip_in
 
 -- what the builders wrote is heard: an acknowledgement in its own form, a request in either
-pub ack-heard : (f : Form) (a : TunnelingAck) (b : List ℕ) (n : ℕ) (after : List ℕ) → AckForm.BuildInPromise f a b (Written.Bytes n) after
+pub ack-heard : (f : Form) (a : TunnelingAck) (b : List ℕ) (n : ℕ) (after : List ℕ) → AckForm.BuildInPromise f a b (Ok n) after
     → heard_in f after ≡ Ack a.connection_header.channel_id a.connection_header.sequence_counter a.status
 ack-heard = WrittenHeard.ack-heard
 
-pub request-heard : (f : Form) (t : TunnelingRequest) (cemi b : List ℕ) (n : ℕ) (after : List ℕ) → TunnelingRequest.BuildPromise t cemi b (Written.Bytes n) after
+pub request-heard : (f : Form) (t : TunnelingRequest) (cemi b : List ℕ) (n : ℕ) (after : List ℕ) → TunnelingRequest.BuildPromise t cemi b (Ok n) after
     → (heard_in f after ≡ Request t.connection_header.channel_id t.connection_header.sequence_counter (cemi_start + length cemi))
     × (part_of after cemi_start (cemi_start + length cemi) ≡ cemi)
 request-heard = WrittenHeard.request-heard
@@ -104,7 +100,7 @@ refusal_reads_back = ConnectResponseLaws.bare_back
 pub response_has_layout : (s : List ℕ) (c : ConnectResponse) → Bytes s → ConnectResponse.ParseStandardPromise s (ConnectResponseLaws.accepted c) → c.status ≡ 0 → take 14 s ≡ ConnectResponse.layout c
 response_has_layout = ConnectResponseLaws.knx_has_layout
 
-pub refusal_has_layout : (s : List ℕ) (r : ConnectResponseAnswer) → ConnectResponse.ParseStandardPromise s r → (r.response.status ≡ 0 → ⊥)
+pub refusal_has_layout : (s : List ℕ) (r : Result ConnectResponse Fault) → ConnectResponse.ParseStandardPromise s r → (r.response.status ≡ 0 → ⊥)
     → take 2 s ≡ put (byte ∷ byte ∷ []) (r.response.channel_id ∷ r.response.status ∷ [])
 refusal_has_layout = ConnectResponseLaws.bare_has_layout
 
@@ -114,12 +110,12 @@ pub disconnect_request_has_layout : (s : List ℕ) (q : DisconnectRequest) → B
     → take 10 s ≡ put Channel.request_fields (q.channel_id ∷ get_or s 1 0 ∷ Hpai.values q.control_endpoint)
 disconnect_request_has_layout = ChannelLaws.request_has_layout
 
-pub disconnect_request_round_trip : (q : DisconnectRequest) (b : List ℕ) (n : ℕ) (after : List ℕ) (p : FrameAnswer) → HpaiLaws.Proper q.control_endpoint
-    → Channel.DisconnectBuildPromise q b (Written.Bytes n) after → Frame.ParsePromise after p → Carries ServiceType.DisconnectRequest 16 n after p (ChannelLaws.ReadsRequest q)
+pub disconnect_request_round_trip : (q : DisconnectRequest) (b : List ℕ) (n : ℕ) (after : List ℕ) (p : Result FrameFields Fault) → HpaiLaws.Proper q.control_endpoint
+    → Channel.DisconnectBuildPromise q b (Ok n) after → Frame.ParsePromise after p → Carries ServiceType.DisconnectRequest 16 n after p (ChannelLaws.ReadsRequest q)
 disconnect_request_round_trip = ChannelLaws.request_round_trip
 
-pub disconnect_response_round_trip : (q : DisconnectResponse) (b : List ℕ) (n : ℕ) (after : List ℕ) (p : FrameAnswer)
-    → Channel.DisconnectResponseBuildPromise q b (Written.Bytes n) after → Frame.ParsePromise after p → Carries ServiceType.DisconnectResponse 8 n after p (ChannelLaws.ReadsResponse q)
+pub disconnect_response_round_trip : (q : DisconnectResponse) (b : List ℕ) (n : ℕ) (after : List ℕ) (p : Result FrameFields Fault)
+    → Channel.DisconnectResponseBuildPromise q b (Ok n) after → Frame.ParsePromise after p → Carries ServiceType.DisconnectResponse 8 n after p (ChannelLaws.ReadsResponse q)
 disconnect_response_round_trip = ChannelLaws.response_round_trip
 
 -- ---- rows: an acknowledgement
@@ -148,9 +144,9 @@ abbrev builds : Form → ℕ → ℕ
 builds f m = (tells (AckForm.build_checks (form_by f) m) []).number
 
 pub record Acks : Type 0 where
-  pub built : AckForm.BuildInPromise Standard (ack_of 0x2A) room (Written.Bytes 10) (0x06 ∷ 0x10 ∷ 0x04 ∷ 0x21 ∷ 0x00 ∷ 0x0A ∷ 0x04 ∷ 0x15 ∷ 0x07 ∷ 0x2A ∷ 9 ∷ 9 ∷ [])
-  pub built_0 : AckForm.BuildInPromise Standard (ack_of 0) room (Written.Bytes 10) (0x06 ∷ 0x10 ∷ 0x04 ∷ 0x21 ∷ 0x00 ∷ 0x0A ∷ 0x04 ∷ 0x15 ∷ 0x07 ∷ 0x00 ∷ 9 ∷ 9 ∷ [])
-  pub built_by_01 : AckForm.BuildInPromise Crate (ack_of 0x2A) room (Written.Bytes 11) (0x06 ∷ 0x10 ∷ 0x04 ∷ 0x21 ∷ 0x00 ∷ 0x0B ∷ 0x04 ∷ 0x15 ∷ 0x07 ∷ 0x00 ∷ 0x2A ∷ 9 ∷ [])
+  pub built : AckForm.BuildInPromise Standard (ack_of 0x2A) room (Ok 10) (0x06 ∷ 0x10 ∷ 0x04 ∷ 0x21 ∷ 0x00 ∷ 0x0A ∷ 0x04 ∷ 0x15 ∷ 0x07 ∷ 0x2A ∷ 9 ∷ 9 ∷ [])
+  pub built_0 : AckForm.BuildInPromise Standard (ack_of 0) room (Ok 10) (0x06 ∷ 0x10 ∷ 0x04 ∷ 0x21 ∷ 0x00 ∷ 0x0A ∷ 0x04 ∷ 0x15 ∷ 0x07 ∷ 0x00 ∷ 9 ∷ 9 ∷ [])
+  pub built_by_01 : AckForm.BuildInPromise Crate (ack_of 0x2A) room (Ok 11) (0x06 ∷ 0x10 ∷ 0x04 ∷ 0x21 ∷ 0x00 ∷ 0x0B ∷ 0x04 ∷ 0x15 ∷ 0x07 ∷ 0x00 ∷ 0x2A ∷ 9 ∷ [])
   -- the output needs 10 bytes, by 01 eleven
   pub room_9 : builds Standard 9 ≡ 1
   pub room_10 : builds Standard 10 ≡ 0
@@ -305,7 +301,7 @@ pub record Sessions : Type 0 where
   pub ended-length : ends (asks_to_end 0 (endpoint 9)) ≡ refused 8 (record { why = InvalidFrame; at = 2 })
   pub ended_of_9_length : ends (asks_to_end 0 (take 7 (endpoint 9))) ≡ refused 8 (short 9)
   -- the response that it is owed
-  pub owed-built : Channel.DisconnectResponseBuildPromise (owed 0) room (Written.Bytes 8) (0x06 ∷ 0x10 ∷ 0x02 ∷ 0x0A ∷ 0x00 ∷ 0x08 ∷ 0x15 ∷ 0x00 ∷ 9 ∷ 9 ∷ 9 ∷ 9 ∷ [])
+  pub owed-built : Channel.DisconnectResponseBuildPromise (owed 0) room (Ok 8) (0x06 ∷ 0x10 ∷ 0x02 ∷ 0x0A ∷ 0x00 ∷ 0x08 ∷ 0x15 ∷ 0x00 ∷ 9 ∷ 9 ∷ 9 ∷ 9 ∷ [])
   pub owed_of_7 : (tells (Channel.response_checks 7) []).number ≡ 1
 
 pub sessions : Sessions

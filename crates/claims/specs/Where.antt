@@ -1,5 +1,5 @@
 -- 02, 3/13, "Say where": one law for every part, B's offset by its datagram alone, and rows. What each call promises of its offset is its own promise; that there is no second one is in `Unique`. Assumes nothing.
-use Rattle.std.specs.Prelude.{ℕ, ◌+◌, ◌≡◌, refl, true, List, [], ◌∷◌, ◌++◌, length, replicate}
+use Rattle.std.specs.Prelude.{ℕ, ◌+◌, ◌≡◌, refl, true, List, [], ◌∷◌, ◌++◌, length, replicate, Ok, Err}
 use Rattle.wire.specs.Told.{Told, refused, nowhere, verdict}
 use Rattle.wire.specs.Places.{standing, later_fault, Reader, all_checks, all_offsets, says_all, later}
 use Rattle.wire.specs.PlaceLaws as PlaceLaws
@@ -8,44 +8,32 @@ use Rattle.wire.specs.Parts.{part_of}
 use Rattle.wire.specs.declared.refusals.Fault.{Fault}
 use Rattle.wire.specs.declared.refusals.Refusal.{Refusal}
 use Rattle.wire.specs.declared.refusals.Refusal.TheVariants.{BufferTooSmall, InvalidFrame, UnsupportedVersion, UnsupportedServiceType, InvalidMessageCode, NotOpen, NotForTunnels, InvalidAdditionalInfo}
-use Rattle.wire.specs.declared.refusals.Standing.TheVariants.{Stands, Falls}
-use Rattle.wire.specs.declared.refusals.Verdict.{Verdict}
-use Rattle.wire.specs.declared.refusals.Verdict.TheVariants.{Accept, Refuse}
+use Rattle.wire.specs.Told.{Verdict}
 use Rattle.constants.specs.Constants.{header_size}
 use Rattle.constants.specs.declared.message_codes.CEMIMessageCode.TheVariants.{LRawInd}
 use Rattle.constants.specs.declared.services.ServiceType.TheVariants.{TunnellingRequest}
-use Rattle.constants.specs.declared.services.ServiceAnswer.TheVariants as ServiceAnswer
 use Rattle.header.specs.Header.{service_in, total_in}
 use Rattle.header.specs.Header as Header
-use Rattle.header.specs.declared.HeaderAnswer.TheVariants as HeaderAnswer
 use Rattle.frame.specs.Frame as Frame
 use Rattle.frame.specs.declared.frame.FrameFields.{FrameFields}
-use Rattle.frame.specs.declared.frame.FrameAnswer.TheVariants as FrameAnswer
 use Rattle.hpai.specs.Hpai as Hpai
 use Rattle.connect.specs.Cri as Cri
-use Rattle.connect.specs.declared.cri.ConnectionRequestInfoAnswer.TheVariants as ConnectionRequestInfoAnswer
 use Rattle.connect.specs.Response as ConnectResponse
 use Rattle.connect.specs.Channel as Channel
-use Rattle.connect.specs.declared.channel.ConnectionStateAnswer.TheVariants as ConnectionStateAnswer
 use Rattle.tunnelling.specs.Connection as Connection
-use Rattle.tunnelling.specs.declared.connection.ConnectionHeaderAnswer.TheVariants as ConnectionHeaderAnswer
 use Rattle.tunnelling.specs.Request as TunnelingRequest
 use Rattle.tunnelling.specs.Ack as TunnelingAck
 use Rattle.tunnelling.specs.AckForm.{form_by, build_checks}
-use Rattle.tunnelling.specs.declared.ack.TunnelingAckAnswer.TheVariants as TunnelingAckAnswer
 use Rattle.tunnelling.specs.declared.form.Form.{Form}
 use Rattle.ldata.specs.Count.{Count, standard_count, count_by}
 use Rattle.ldata.specs.LData as LData
 use Rattle.ldata.specs.declared.count.Counting.{Counting}
 use Rattle.ldata.specs.declared.count.Counting.TheVariants.{Standard}
-use Rattle.ldata.specs.declared.ldata.LDataAnswer.TheVariants as LDataAnswer
 use Rattle.cemi.specs.Cemi as Cemi
 use Rattle.cemi.specs.CemiLaws as CemiLaws
-use Rattle.cemi.specs.declared.CEMIAnswer.TheVariants as CEMIAnswer
 use Rattle.additional_info.specs.Area.{behind, records_in, place_of, unfilled, area_check, area_offsets}
 use Rattle.additional_info.specs.Area as Area
 use Rattle.additional_info.specs.AreaLaws as AreaLaws
-use Rattle.additional_info.specs.declared.area.CountAnswer.TheVariants as CountAnswer
 use Rattle.borrowed.specs.LDataFrame as LDataFrame
 use Rattle.tunnel_datagram.specs.Hearing.{cemi_start, heard_or, heard_in, heard_by01}
 use Rattle.tunnel_datagram.specs.Order as Order
@@ -66,8 +54,8 @@ use Rattle.claims.specs.StandardCount.{indication, to_group, group_write}
 -- ---- a part that starts later adds its own start
 
 -- for every part: where all before it stand, what its reader refuses is what the reader of the whole refuses, moved by the part's start, whatever follows
-pub every_part : (rs : List Reader) (r : Reader) (qs : List Reader) (e : Fault) → says_all rs ≡ Stands → standing r.checks r.offsets ≡ Falls e
-    → standing (all_checks (rs ++ r ∷ qs)) (all_offsets (rs ++ r ∷ qs)) ≡ Falls (later_fault r.start e)
+pub every_part : (rs : List Reader) (r : Reader) (qs : List Reader) (e : Fault) → says_all rs ≡ Ok tt → standing r.checks r.offsets ≡ Err e
+    → standing (all_checks (rs ++ r ∷ qs)) (all_offsets (rs ++ r ∷ qs)) ≡ Err (later_fault r.start e)
 every_part = PlaceLaws.every_part
 
 -- and the reader of the whole says what the readers of its parts say, one after another
@@ -115,19 +103,19 @@ module _ (s : List ℕ) where
 
   -- each part's refusal, from what its reader promises
   abbrev Refuses : List Reader → Fault → Type 0
-  Refuses rs e = standing (all_checks rs) (all_offsets rs) ≡ Falls e
+  Refuses rs e = standing (all_checks rs) (all_offsets rs) ≡ Err e
 
-  pub body-later : (e : Fault) → says_all (frame ∷ []) ≡ Stands → Connection.DecodePromise body_in (ConnectionHeaderAnswer.Refused e) → Refuses (frame ∷ body ∷ []) (later_fault 6 e)
+  pub body-later : (e : Fault) → says_all (frame ∷ []) ≡ Ok tt → Connection.DecodePromise body_in (Err e) → Refuses (frame ∷ body ∷ []) (later_fault 6 e)
   body-later e stand p = every_part (frame ∷ []) body [] e stand (PlaceLaws.was_fallen body.checks body.offsets _ 2 e refl p)
 
-  pub cemi-later : (e : Fault) → says_all (frame ∷ body ∷ []) ≡ Stands → Cemi.ParsePromise cemi_in (CEMIAnswer.Refused e) → Refuses (frame ∷ body ∷ cemi ∷ []) (later_fault 10 e)
+  pub cemi-later : (e : Fault) → says_all (frame ∷ body ∷ []) ≡ Ok tt → Cemi.ParsePromise cemi_in (Err e) → Refuses (frame ∷ body ∷ cemi ∷ []) (later_fault 10 e)
   cemi-later e stand p = every_part (frame ∷ body ∷ []) cemi [] e stand (PlaceLaws.was_fallen cemi.checks cemi.offsets _ 1 e refl p)
 
-  pub area-later : (e : Fault) → says_all (frame ∷ body ∷ cemi ∷ info ∷ []) ≡ Stands → Area.CountPromise area_in (CountAnswer.Refused e) → Refuses (frame ∷ body ∷ cemi ∷ info ∷ area ∷ []) (later_fault 12 e)
+  pub area-later : (e : Fault) → says_all (frame ∷ body ∷ cemi ∷ info ∷ []) ≡ Ok tt → Area.CountPromise area_in (Err e) → Refuses (frame ∷ body ∷ cemi ∷ info ∷ area ∷ []) (later_fault 12 e)
   area-later e stand p = every_part (frame ∷ body ∷ cemi ∷ info ∷ []) area [] e stand (PlaceLaws.was_fallen area.checks area.offsets _ 1 e refl p)
 
   -- in either count
-  pub ldata-later : (c : Counting) (e : Fault) → says_all (frame ∷ body ∷ cemi ∷ info ∷ []) ≡ Stands → LData.ParseInPromise c (Cemi.service_info cemi_in) (LDataAnswer.Refused e)
+  pub ldata-later : (c : Counting) (e : Fault) → says_all (frame ∷ body ∷ cemi ∷ info ∷ []) ≡ Ok tt → LData.ParseInPromise c (Cemi.service_info cemi_in) (Err e)
       → Refuses (frame ∷ body ∷ cemi ∷ info ∷ ldata (count_by c) ∷ []) (later_fault (12 + Cemi.info_length cemi_in) e)
   ldata-later c e stand p =
       every_part (frame ∷ body ∷ cemi ∷ info ∷ []) (ldata (count_by c)) [] e stand (PlaceLaws.was_fallen (ldata (count_by c)).checks (ldata (count_by c)).offsets _ 9 e refl p)
@@ -145,8 +133,8 @@ offset_of (Ack channel n status) = 0
 offset_of (Refused e) = e.at
 
 or_nowhere : (v : Verdict) (out : List ℕ) (t : Tunnel) (a : After) → a.0.0.offset ≡ 0 → (or_refused v out t a).0.0.offset ≡ 0
-or_nowhere Accept out t a z = z
-or_nowhere (Refuse e) out t a z = refl
+or_nowhere (Ok tt) out t a z = z
+or_nowhere (Err e) out t a z = refl
 
 arrived-nowhere : (f : Form) (x : Arrival) (t : Tunnel) (channel n end : ℕ) (out : List ℕ) → (arrived f x t channel n end out).0.0.offset ≡ 0
 arrived-nowhere f Deliver t channel n end out = or_nowhere (verdict (build_checks (form_by f) (length out))) out t _ refl
@@ -195,50 +183,50 @@ to_area s = frame s ∷ body s ∷ cemi s ∷ info s ∷ area s ∷ []
 
 pub record Rows : Type 0 where
   -- the header: 1 at the input's end, 2 at 0, 3 at 1, 4 at 2
-  pub header_empty : Header.ParsePromise [] (HeaderAnswer.Refused (at BufferTooSmall 0))
-  pub header-short : Header.ParsePromise (0x06 ∷ 0x10 ∷ 0x04 ∷ 0x20 ∷ 0x00 ∷ []) (HeaderAnswer.Refused (at BufferTooSmall 5))
-  pub header-length : Header.ParsePromise (six 5 0x10 6) (HeaderAnswer.Refused (at InvalidFrame 0))
-  pub header_version : Header.ParsePromise (six 6 0x11 6) (HeaderAnswer.Refused (at UnsupportedVersion 1))
-  pub header_service : Header.ParsePromise (0x06 ∷ 0x10 ∷ 0xFF ∷ 0xFF ∷ 0x00 ∷ 0x06 ∷ []) (HeaderAnswer.Refused (at UnsupportedServiceType 2))
+  pub header_empty : Header.ParsePromise [] (Err (at BufferTooSmall 0))
+  pub header-short : Header.ParsePromise (0x06 ∷ 0x10 ∷ 0x04 ∷ 0x20 ∷ 0x00 ∷ []) (Err (at BufferTooSmall 5))
+  pub header-length : Header.ParsePromise (six 5 0x10 6) (Err (at InvalidFrame 0))
+  pub header_version : Header.ParsePromise (six 6 0x11 6) (Err (at UnsupportedVersion 1))
+  pub header_service : Header.ParsePromise (0x06 ∷ 0x10 ∷ 0xFF ∷ 0xFF ∷ 0x00 ∷ 0x06 ∷ []) (Err (at UnsupportedServiceType 2))
   -- both of the total length at 4
-  pub frame_total_5 : Frame.ParsePromise (six 6 0x10 5) (FrameAnswer.Refused (at InvalidFrame 4))
-  pub frame_total_7 : Frame.ParsePromise (six 6 0x10 7) (FrameAnswer.Refused (at InvalidFrame 4))
-  pub frame-header : Frame.ParsePromise (six 6 0x11 5) (FrameAnswer.Refused (at UnsupportedVersion 1))
+  pub frame_total_5 : Frame.ParsePromise (six 6 0x10 5) (Err (at InvalidFrame 4))
+  pub frame_total_7 : Frame.ParsePromise (six 6 0x10 7) (Err (at InvalidFrame 4))
+  pub frame-header : Frame.ParsePromise (six 6 0x11 5) (Err (at UnsupportedVersion 1))
   -- the accessors of a record that no parse made, over a slice
-  pub made-header : Frame.HeaderPromise (made 0x10) (replicate 5 0) (HeaderAnswer.Refused (at BufferTooSmall 5))
-  pub made_service : Frame.ServiceTypePromise (made 0x20) (replicate 6 0) (ServiceAnswer.Refused (at UnsupportedVersion 1))
+  pub made-header : Frame.HeaderPromise (made 0x10) (replicate 5 0) (Err (at BufferTooSmall 5))
+  pub made_service : Frame.ServiceTypePromise (made 0x20) (replicate 6 0) (Err (at UnsupportedVersion 1))
   pub made-body : Frame.BodyPromise (record { header = record { header_length = 6; protocol_version = 0x10; service_type = TunnellingRequest; total_length = 7 } }) (replicate 6 0)
       (record { number = 2; start = 0; end = 0; offset = 4 })
   -- an Hpai and request information: 1 at the end, 2 at 0
   pub hpai-short : Hpai.parse_where (0x08 ∷ replicate 6 0) ≡ refused 7 (at BufferTooSmall 7)
   pub hpai-length : Hpai.parse_where (0x09 ∷ replicate 7 0) ≡ refused 7 (at InvalidFrame 0)
-  pub cri_short : Cri.DecodePromise (0x04 ∷ 0x04 ∷ 0x02 ∷ []) (ConnectionRequestInfoAnswer.Refused (at BufferTooSmall 3))
-  pub cri_length : Cri.DecodePromise (0x05 ∷ 0x04 ∷ 0x02 ∷ 0x00 ∷ []) (ConnectionRequestInfoAnswer.Refused (at InvalidFrame 0))
+  pub cri_short : Cri.DecodePromise (0x04 ∷ 0x04 ∷ 0x02 ∷ []) (Err (at BufferTooSmall 3))
+  pub cri_length : Cri.DecodePromise (0x05 ∷ 0x04 ∷ 0x02 ∷ 0x00 ∷ []) (Err (at InvalidFrame 0))
   -- a connect response's body: 1 at its end, the Hpai's 2 at 2
   pub response_short : ConnectResponse.parse_where (0x15 ∷ 0x00 ∷ 0x08 ∷ replicate 10 0) ≡ refused 13 (at BufferTooSmall 13)
   pub response_hpai : ConnectResponse.parse_where (0x15 ∷ 0x00 ∷ 0x07 ∷ replicate 11 0) ≡ refused 13 (at InvalidFrame 2)
-  pub status-short : Channel.StateParsePromise (0x15 ∷ []) (ConnectionStateAnswer.Refused (at BufferTooSmall 1))
+  pub status-short : Channel.StateParsePromise (0x15 ∷ []) (Err (at BufferTooSmall 1))
   -- bodies that are too short: at their end, not at the length that they need
-  pub connection-short : Connection.DecodePromise (0x04 ∷ 0x15 ∷ 0x07 ∷ []) (ConnectionHeaderAnswer.Refused (at BufferTooSmall 3))
+  pub connection-short : Connection.DecodePromise (0x04 ∷ 0x15 ∷ 0x07 ∷ []) (Err (at BufferTooSmall 3))
   pub cemi_data_short : TunnelingRequest.CemiDataPromise (0x04 ∷ []) (record { number = 1; start = 0; end = 0; offset = 1 })
-  pub ack-short : TunnelingAck.ParsePromise (0x04 ∷ 0x15 ∷ 0x07 ∷ 0x00 ∷ []) (TunnelingAckAnswer.Refused (at BufferTooSmall 4))
+  pub ack-short : TunnelingAck.ParsePromise (0x04 ∷ 0x15 ∷ 0x07 ∷ 0x00 ∷ []) (Err (at BufferTooSmall 4))
   -- cEMI: 1 at its end, 6 at 0, the additional length's 2 at 1, also past the end of the area
-  pub cemi-short : Cemi.ParsePromise (0x29 ∷ []) (CEMIAnswer.Refused (at BufferTooSmall 1))
-  pub cemi_code : Cemi.ParsePromise (0x13 ∷ 0x00 ∷ []) (CEMIAnswer.Refused (at InvalidMessageCode 0))
+  pub cemi-short : Cemi.ParsePromise (0x29 ∷ []) (Err (at BufferTooSmall 1))
+  pub cemi_code : Cemi.ParsePromise (0x13 ∷ 0x00 ∷ []) (Err (at InvalidMessageCode 0))
   pub service_info_past : Cemi.service_info_where (0x29 ∷ 0x02 ∷ 0x04 ∷ []) ≡ no_part (at InvalidFrame 1)
   pub area_past : Cemi.info_where (0x29 ∷ 0x02 ∷ 0x04 ∷ []) ≡ no_part (at InvalidFrame 1)
-  pub as_ldata_raw : Cemi.AsLDataPromise (record { message_code = LRawInd }) (0x29 ∷ 0x00 ∷ to_group 2 (0x00 ∷ 0x81 ∷ [])) (LDataAnswer.Refused (at InvalidMessageCode 0))
-  pub as_ldata_past : Cemi.AsLDataPromise indication (0x29 ∷ 0xFF ∷ []) (LDataAnswer.Refused (at InvalidFrame 1))
+  pub as_ldata_raw : Cemi.AsLDataPromise (record { message_code = LRawInd }) (0x29 ∷ 0x00 ∷ to_group 2 (0x00 ∷ 0x81 ∷ [])) (Err (at InvalidMessageCode 0))
+  pub as_ldata_past : Cemi.AsLDataPromise indication (0x29 ∷ 0xFF ∷ []) (Err (at InvalidFrame 1))
   -- L_Data behind four bytes of additional information: 2 + 4 + 6, and at the frame's end
-  pub as_ldata_length : Cemi.AsLDataInPromise Standard indication (0x29 ∷ 0x04 ∷ 0x04 ∷ 0x02 ∷ 0x12 ∷ 0x34 ∷ to_group 7 (0x00 ∷ 0x81 ∷ [])) (LDataAnswer.Refused (at InvalidFrame 12))
-  pub as_ldata_short : Cemi.AsLDataInPromise Standard indication (0x29 ∷ 0x04 ∷ 0x04 ∷ 0x02 ∷ 0x12 ∷ 0x34 ∷ to_group 7 []) (LDataAnswer.Refused (at BufferTooSmall 13))
+  pub as_ldata_length : Cemi.AsLDataInPromise Standard indication (0x29 ∷ 0x04 ∷ 0x04 ∷ 0x02 ∷ 0x12 ∷ 0x34 ∷ to_group 7 (0x00 ∷ 0x81 ∷ [])) (Err (at InvalidFrame 12))
+  pub as_ldata_short : Cemi.AsLDataInPromise Standard indication (0x29 ∷ 0x04 ∷ 0x04 ∷ 0x02 ∷ 0x12 ∷ 0x34 ∷ to_group 7 []) (Err (at BufferTooSmall 13))
   -- L_Data in both counts: 1 at its end, 2 at 6, of an L that is not allowed and of an end past the input
-  pub ldata_8 : LData.ParsePromise (to_group 2 (0x00 ∷ [])) (LDataAnswer.Refused (at BufferTooSmall 8))
-  pub ldata_L1 : LData.ParsePromise (to_group 1 (0x00 ∷ 0x81 ∷ [])) (LDataAnswer.Refused (at InvalidFrame 6))
-  pub ldata_L4 : LData.ParsePromise (to_group 4 (0x00 ∷ 0x81 ∷ [])) (LDataAnswer.Refused (at InvalidFrame 6))
-  pub standard_7 : LData.ParseInPromise Standard (to_group 1 []) (LDataAnswer.Refused (at BufferTooSmall 7))
-  pub standard_L0 : LData.ParseInPromise Standard (to_group 0 (0x00 ∷ 0x81 ∷ [])) (LDataAnswer.Refused (at InvalidFrame 6))
-  pub standard_L2 : LData.ParseInPromise Standard (to_group 2 (0x00 ∷ 0x81 ∷ [])) (LDataAnswer.Refused (at InvalidFrame 6))
+  pub ldata_8 : LData.ParsePromise (to_group 2 (0x00 ∷ [])) (Err (at BufferTooSmall 8))
+  pub ldata_L1 : LData.ParsePromise (to_group 1 (0x00 ∷ 0x81 ∷ [])) (Err (at InvalidFrame 6))
+  pub ldata_L4 : LData.ParsePromise (to_group 4 (0x00 ∷ 0x81 ∷ [])) (Err (at InvalidFrame 6))
+  pub standard_7 : LData.ParseInPromise Standard (to_group 1 []) (Err (at BufferTooSmall 7))
+  pub standard_L0 : LData.ParseInPromise Standard (to_group 0 (0x00 ∷ 0x81 ∷ [])) (Err (at InvalidFrame 6))
+  pub standard_L2 : LData.ParseInPromise Standard (to_group 2 (0x00 ∷ 0x81 ∷ [])) (Err (at InvalidFrame 6))
   -- the data of records that no parse made, one with its slice and one that holds its data alone
   pub made_data_short : LData.DataPromise (group_write 2) (replicate 8 0) (record { number = 1; start = 0; end = 0; offset = 8 })
   pub made_data_L : LData.DataPromise (group_write 1) (replicate 9 0) (record { number = 2; start = 0; end = 0; offset = 6 })
@@ -251,8 +239,8 @@ pub record Rows : Type 0 where
   -- a call that takes no datagram; an output that is too small is `TunnelRows.short-output`
   pub close_closed : (step chan (store_of kind) (empty_of kind 8) (Close 21)).0 ≡ refuses_at (nowhere NotOpen) []
   -- a request whose L_Data behind four bytes of additional information has a wrong L: 10 + 2 + 4 + 6; one whose area ends in a lone type byte: 12 + 2
-  pub deep_length : standing (all_checks (to_ldata wrong_length)) (all_offsets (to_ldata wrong_length)) ≡ Falls (at InvalidFrame 22)
-  pub deep_area : standing (all_checks (to_area lone_type)) (all_offsets (to_area lone_type)) ≡ Falls (at InvalidAdditionalInfo 14)
+  pub deep_length : standing (all_checks (to_ldata wrong_length)) (all_offsets (to_ldata wrong_length)) ≡ Err (at InvalidFrame 22)
+  pub deep_area : standing (all_checks (to_area lone_type)) (all_offsets (to_area lone_type)) ≡ Err (at InvalidAdditionalInfo 14)
 
 pub rows : Rows
 unfolding records_in behind

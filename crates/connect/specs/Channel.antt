@@ -1,23 +1,21 @@
 -- Connection state and disconnect: requests of 16 bytes, a shorter buffer is 1; responses need 2 bytes. Each shape is said once. Behind 01's, what a host needs where the gateway is the one to disconnect. Assumes nothing.
-use Rattle.std.specs.Prelude.{ℕ, ◌≡◌, refl, Bool, List, [], ◌∷◌, ◌++◌, length, get_or, drop, replicate, eqb}
+use Rattle.std.specs.Prelude.{ℕ, ◌≡◌, refl, Bool, List, [], ◌∷◌, ◌++◌, length, get_or, drop, replicate, eqb, Result, Ok, Err}
 use Rattle.wire.specs.Told.{Told, done, refused, Check}
 use Rattle.wire.specs.Places.{moved}
 use Rattle.wire.specs.Writing.{Writes, room}
 use Rattle.wire.specs.Layout.{Field, byte, size, put}
 use Rattle.wire.specs.Format.{Format, found_in, read_by01, read_where}
-use Rattle.wire.specs.declared.refusals.Written.{Written}
 use Rattle.constants.specs.declared.services.ServiceType.{ServiceType}
 use Rattle.frame.specs.Write.{frame}
 use Rattle.hpai.specs.Hpai as Hpai
 use Rattle.hpai.specs.declared.Hpai.{Hpai}
 use Rattle.connect.specs.declared.channel.ConnectionStateRequest.{ConnectionStateRequest}
 use Rattle.connect.specs.declared.channel.ConnectionStateResponse.{ConnectionStateResponse}
-use Rattle.connect.specs.declared.channel.ConnectionStateAnswer.{ConnectionStateAnswer}
 use Rattle.connect.specs.declared.channel.DisconnectRequest.{DisconnectRequest}
-use Rattle.connect.specs.declared.channel.DisconnectRequestAnswer.{DisconnectRequestAnswer}
 use Rattle.connect.specs.declared.channel.DisconnectResponse.{DisconnectResponse}
-use Rattle.connect.specs.declared.channel.DisconnectAnswer.{DisconnectAnswer}
-use Rattle.connect.specs.declared.channel.StatusAnswer.{StatusAnswer}
+use Rattle.connect.specs.declared.channel.Status.{Status}
+use Rattle.wire.specs.declared.refusals.Fault.{Fault}
+use Rattle.wire.specs.declared.refusals.Refusal.{Refusal}
 
 -- ---- requests: channel, a zero, the control endpoint
 
@@ -28,7 +26,7 @@ request_layout channel h = put (byte ∷ byte ∷ []) (channel ∷ 0 ∷ []) ++ 
 abbrev pub request_checks : ℕ → List Check
 request_checks m = room 16 m ∷ []
 
-abbrev pub RequestPromise : ServiceType → ℕ → Hpai → List ℕ → Written → List ℕ → Type 0
+abbrev pub RequestPromise : ServiceType → ℕ → Hpai → List ℕ → Result ℕ Refusal → List ℕ → Type 0
 RequestPromise s channel h b r after = Writes (request_checks (length b)) (frame s (request_layout channel h)) b r after
 
 abbrev pub StateNewPromise : ℕ → Hpai → ConnectionStateRequest → Type 0
@@ -37,10 +35,10 @@ StateNewPromise channel h r = r ≡ record { channel_id = channel; control_endpo
 abbrev pub DisconnectNewPromise : ℕ → Hpai → DisconnectRequest → Type 0
 DisconnectNewPromise channel h r = r ≡ record { channel_id = channel; control_endpoint = h }
 
-abbrev pub StateBuildPromise : ConnectionStateRequest → List ℕ → Written → List ℕ → Type 0
+abbrev pub StateBuildPromise : ConnectionStateRequest → List ℕ → Result ℕ Refusal → List ℕ → Type 0
 StateBuildPromise q b r after = RequestPromise ServiceType.ConnectionstateRequest q.channel_id q.control_endpoint b r after
 
-abbrev pub DisconnectBuildPromise : DisconnectRequest → List ℕ → Written → List ℕ → Type 0
+abbrev pub DisconnectBuildPromise : DisconnectRequest → List ℕ → Result ℕ Refusal → List ℕ → Type 0
 DisconnectBuildPromise q b r after = RequestPromise ServiceType.DisconnectRequest q.channel_id q.control_endpoint b r after
 
 -- ---- responses: channel, status
@@ -63,25 +61,25 @@ status_where s = found_in status_format s (status_by01 s)
 abbrev pub status : ℕ → ℕ → Told
 status channel code = done (channel ∷ code ∷ [])
 
-abbrev pub told_status : StatusAnswer → Told
-told_status (StatusAnswer.Status s) = status s.channel_id s.status
-told_status (StatusAnswer.Refused e) = refused 2 e
+abbrev pub told_status : Result Status Fault → Told
+told_status (Ok s) = status s.channel_id s.status
+told_status (Err e) = refused 2 e
 
-abbrev pub told_state : ConnectionStateAnswer → Told
-told_state (ConnectionStateAnswer.Response s) = status s.channel_id s.status
-told_state (ConnectionStateAnswer.Refused e) = refused 2 e
+abbrev pub told_state : Result ConnectionStateResponse Fault → Told
+told_state (Ok s) = status s.channel_id s.status
+told_state (Err e) = refused 2 e
 
-abbrev pub told_disconnect : DisconnectAnswer → Told
-told_disconnect (DisconnectAnswer.Response s) = status s.channel_id s.status
-told_disconnect (DisconnectAnswer.Refused e) = refused 2 e
+abbrev pub told_disconnect : Result DisconnectResponse Fault → Told
+told_disconnect (Ok s) = status s.channel_id s.status
+told_disconnect (Err e) = refused 2 e
 
-abbrev pub StatusPromise : List ℕ → StatusAnswer → Type 0
+abbrev pub StatusPromise : List ℕ → Result Status Fault → Type 0
 StatusPromise s r = told_status r ≡ status_where s
 
-abbrev pub StateParsePromise : List ℕ → ConnectionStateAnswer → Type 0
+abbrev pub StateParsePromise : List ℕ → Result ConnectionStateResponse Fault → Type 0
 StateParsePromise s r = told_state r ≡ status_where s
 
-abbrev pub DisconnectParsePromise : List ℕ → DisconnectAnswer → Type 0
+abbrev pub DisconnectParsePromise : List ℕ → Result DisconnectResponse Fault → Type 0
 DisconnectParsePromise s r = told_disconnect r ≡ status_where s
 
 -- status 0
@@ -106,14 +104,14 @@ request_format = record {
   values_in = λ vs. get_or vs 0 0 ∷ drop 2 vs;
 }
 
-abbrev pub told_request : DisconnectRequestAnswer → Told
+abbrev pub told_request : Result DisconnectRequest Fault → Told
 told_request r = record { number = r.number; values = r.request.channel_id ∷ Hpai.values r.request.control_endpoint; start = 0; end = 0; offset = r.offset }
 
-abbrev pub DisconnectRequestParsePromise : List ℕ → DisconnectRequestAnswer → Type 0
+abbrev pub DisconnectRequestParsePromise : List ℕ → Result DisconnectRequest Fault → Type 0
 DisconnectRequestParsePromise s r = told_request r ≡ read_where request_format s
 
 -- eight zeros beside the number, and the offset
-abbrev pub NoRequestPromise : ℕ → ℕ → DisconnectRequestAnswer → Type 0
+abbrev pub NoRequestPromise : ℕ → ℕ → Result DisconnectRequest Fault → Type 0
 NoRequestPromise n o r = told_request r ≡ record { number = n; values = replicate 8 0; start = 0; end = 0; offset = o }
 
 -- ---- the response that it is owed: 8 bytes, a shorter buffer is 1. `06 10 02 0A 00 08 15 00` is channel 0x15, status 0
@@ -127,5 +125,5 @@ status_layout channel code = put status_fields (channel ∷ code ∷ [])
 abbrev pub response_checks : ℕ → List Check
 response_checks m = room 8 m ∷ []
 
-abbrev pub DisconnectResponseBuildPromise : DisconnectResponse → List ℕ → Written → List ℕ → Type 0
+abbrev pub DisconnectResponseBuildPromise : DisconnectResponse → List ℕ → Result ℕ Refusal → List ℕ → Type 0
 DisconnectResponseBuildPromise q b r after = Writes (response_checks (length b)) (frame ServiceType.DisconnectResponse (status_layout q.channel_id q.status)) b r after

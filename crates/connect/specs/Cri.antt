@@ -1,14 +1,13 @@
 -- 01, "`ConnectionRequestInfo`": 4, type, layer, 0; fewer than 4 (1), length byte not 4 (2). Assumes nothing.
-use Rattle.std.specs.Prelude.{ℕ, ◌≡◌, refl, List, [], ◌∷◌, length, get_or}
+use Rattle.std.specs.Prelude.{ℕ, ◌≡◌, refl, List, [], ◌∷◌, length, get_or, Result, Ok, Err}
 use Rattle.wire.specs.Told.{Told, done, refused, Check, ◌⇒◌, differs}
 use Rattle.wire.specs.Writing.{Writes, room}
 use Rattle.wire.specs.Layout.{Field, byte, size, put}
 use Rattle.wire.specs.Format.{Format, checks_of, found_in, read_by01}
 use Rattle.wire.specs.declared.refusals.Refusal.TheVariants.{InvalidFrame}
-use Rattle.wire.specs.declared.refusals.Written.{Written}
 use Rattle.connect.specs.declared.cri.ConnectionRequestInfo.{ConnectionRequestInfo}
-use Rattle.connect.specs.declared.cri.ConnectionRequestInfoAnswer.{ConnectionRequestInfoAnswer}
-use Rattle.connect.specs.declared.cri.ConnectionRequestInfoAnswer.TheVariants.{Info, Refused}
+use Rattle.wire.specs.declared.refusals.Fault.{Fault}
+use Rattle.wire.specs.declared.refusals.Refusal.{Refusal}
 
 -- length, type, layer, reserved
 abbrev pub fields : List Field
@@ -47,9 +46,9 @@ format = record {
 abbrev pub checks : ℕ → List ℕ → List Check
 checks n vs = checks_of format n vs
 
-abbrev pub told : ConnectionRequestInfoAnswer → Told
-told (Info c) = done (c.connection_type ∷ c.knx_layer ∷ [])
-told (Refused e) = refused 2 e
+abbrev pub told : Result ConnectionRequestInfo Fault → Told
+told (Ok c) = done (c.connection_type ∷ c.knx_layer ∷ [])
+told (Err e) = refused 2 e
 
 abbrev pub decode_by01 : List ℕ → Told
 decode_by01 s = read_by01 format s
@@ -58,7 +57,7 @@ decode_by01 s = read_by01 format s
 abbrev pub decode_where : List ℕ → Told
 decode_where s = found_in format s (decode_by01 s)
 
-abbrev pub DecodePromise : List ℕ → ConnectionRequestInfoAnswer → Type 0
+abbrev pub DecodePromise : List ℕ → Result ConnectionRequestInfo Fault → Type 0
 DecodePromise s r = told r ≡ decode_where s
 
 -- a tunnel (4) on the link layer (2)
@@ -71,7 +70,7 @@ TunnelLinkLayerPromise r = r ≡ tunnel
 abbrev pub encode_checks : ℕ → List Check
 encode_checks m = room (size fields) m ∷ []
 
-abbrev pub EncodePromise : ConnectionRequestInfo → List ℕ → Written → List ℕ → Type 0
+abbrev pub EncodePromise : ConnectionRequestInfo → List ℕ → Result ℕ Refusal → List ℕ → Type 0
 EncodePromise c b r after = Writes (encode_checks (length b)) (layout c) b r after
 
 abbrev pub ToBytesPromise : ConnectionRequestInfo → List ℕ → Type 0

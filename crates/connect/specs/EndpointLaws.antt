@@ -1,5 +1,5 @@
 -- A body with an endpoint from 2 to 10: what the endpoint's parse answered decides. A connect response and a disconnect request are such. Assumes nothing.
-use Rattle.std.specs.Prelude.{ℕ, ◌+◌, ◌≤◌, ◌≡◌, refl, List, length, take, drop, replicate}
+use Rattle.std.specs.Prelude.{ℕ, ◌+◌, ◌≤◌, ◌≡◌, refl, List, length, take, drop, replicate, Result}
 use Rattle.std.proofs.Common.{arith, sym, ap, ◌∙◌, length-drop, length-take-le}
 use Rattle.wire.specs.Told.{Told, done, judged}
 use Rattle.wire.specs.ToldLaws.{was_accepted, let_through}
@@ -8,9 +8,10 @@ use Rattle.wire.specs.PlaceLaws.{located_pass, offset_within, refuses-later}
 use Rattle.wire.specs.Layout.{get}
 use Rattle.wire.specs.LayoutLaws.{get_part}
 use Rattle.hpai.specs.Hpai as Hpai
-use Rattle.hpai.specs.declared.HpaiAnswer.{HpaiAnswer}
+use Rattle.hpai.specs.declared.Hpai.{Hpai}
+use Rattle.wire.specs.declared.refusals.Fault.{Fault}
 
-module _ (s : List ℕ) (enough : 10 ≤ length s) (h : HpaiAnswer) (parsed : Hpai.ParsePromise (take 8 (drop 2 s)) h) where
+module _ (s : List ℕ) (enough : 10 ≤ length s) (h : Result Hpai Fault) (parsed : Hpai.ParsePromise (take 8 (drop 2 s)) h) where
   -- the endpoint's values in the body
   abbrev pub endpoint_in : List ℕ
   endpoint_in = get Hpai.fields 2 s

@@ -1,5 +1,5 @@
 -- "A connect response body needs 14 bytes (1) whatever its status, then the `Hpai` checks." Assumes nothing.
-use Rattle.std.specs.Prelude.{ℕ, ◌≡◌, refl, Bool, cond, List, [], ◌∷◌, ◌++◌, length, get_or, drop, replicate, eqb, ltb}
+use Rattle.std.specs.Prelude.{ℕ, ◌≡◌, refl, Bool, cond, List, [], ◌∷◌, ◌++◌, length, get_or, drop, replicate, eqb, ltb, Result}
 use Rattle.wire.specs.Told.{Told, done, Check, ◌⇒◌, judged}
 use Rattle.wire.specs.Places.{located, moved}
 use Rattle.wire.specs.Layout.{Field, byte, run, word_at, size, put, get}
@@ -8,7 +8,7 @@ use Rattle.wire.specs.declared.refusals.Refusal.TheVariants.{BufferTooSmall}
 use Rattle.address.specs.declared.IndividualAddress.{IndividualAddress}
 use Rattle.hpai.specs.Hpai as Hpai
 use Rattle.connect.specs.declared.response.ConnectResponse.{ConnectResponse}
-use Rattle.connect.specs.declared.response.ConnectResponseAnswer.{ConnectResponseAnswer}
+use Rattle.wire.specs.declared.refusals.Fault.{Fault}
 
 -- channel, status, data endpoint, connection response data (4)
 abbrev pub fields : List Field
@@ -38,7 +38,7 @@ checks n vs = checks_of format n vs
 abbrev pub offsets : ℕ → List ℕ
 offsets n = offsets_of format n
 
-abbrev pub told : ConnectResponseAnswer → Told
+abbrev pub told : Result ConnectResponse Fault → Told
 told r = record { number = r.number; values = values r.response; start = 0; end = 0; offset = r.offset }
 
 abbrev pub parse_by01 : List ℕ → Told
@@ -53,11 +53,11 @@ pub record Arrays (c : ConnectResponse) : Type 0 where
   pub address_4 : length c.data_endpoint.ip_address ≡ 4
   pub crd_4 : length c.crd ≡ 4
 
-abbrev pub ParsePromise : List ℕ → ConnectResponseAnswer → Type 0
+abbrev pub ParsePromise : List ℕ → Result ConnectResponse Fault → Type 0
 ParsePromise s r = (told r ≡ parse_where s) × Arrays r.response
 
 -- thirteen zeros beside the number, and the offset
-abbrev pub RefusedPromise : ℕ → ℕ → ConnectResponseAnswer → Type 0
+abbrev pub RefusedPromise : ℕ → ℕ → Result ConnectResponse Fault → Type 0
 RefusedPromise n o r = (told r ≡ record { number = n; values = replicate 13 0; start = 0; end = 0; offset = o }) × Arrays r.response
 
 abbrev pub IsOkPromise : ConnectResponse → Bool → Type 0
@@ -88,7 +88,7 @@ parse_by_knx s = judged (knx_checks (length s) (get fields 0 s)) (done (knx_valu
 abbrev pub parse_standard_where : List ℕ → Told
 parse_standard_where s = located (knx_checks (length s) (get fields 0 s)) (knx_offsets (length s) (get fields 0 s)) (parse_by_knx s)
 
-abbrev pub ParseStandardPromise : List ℕ → ConnectResponseAnswer → Type 0
+abbrev pub ParseStandardPromise : List ℕ → Result ConnectResponse Fault → Type 0
 ParseStandardPromise s r = (told r ≡ parse_standard_where s) × Arrays r.response
 
 abbrev pub BarePromise : ℕ → ℕ → ConnectResponse → Type 0

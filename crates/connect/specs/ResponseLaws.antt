@@ -1,5 +1,5 @@
 -- A connect response: how it goes on from its endpoint, both ways, and no second answer; then in KNX's form. Assumes nothing.
-use Rattle.std.specs.Prelude.{ℕ, ◌+◌, ◌<◌, ◌≤◌, ◌≡◌, refl, Bool, true, false, cond, ◌↔◌, List, [], ◌∷◌, ◌++◌, length, get_or, take, drop, ltb, eqb}
+use Rattle.std.specs.Prelude.{ℕ, ◌+◌, ◌<◌, ◌≤◌, ◌≡◌, refl, Bool, true, false, cond, ◌↔◌, List, [], ◌∷◌, ◌++◌, length, get_or, take, drop, ltb, eqb, Ok, Err, Result}
 use Rattle.std.proofs.Common.{arith, sym, ap, ◌∙◌, append_assoc, length-append, take_at, drop_at, lt-ltb, le-ltb, ltb-true, eq-eqb, ne_eqb, eqb-true}
 use Rattle.std.proofs.lemmas.List.{get_or_at}
 use Rattle.std.proofs.lemmas.Bool.{eqb-false}
@@ -10,18 +10,16 @@ use Rattle.wire.specs.FormatLaws as FormatLaws
 use Rattle.wire.specs.LayoutLaws.{Bytes}
 use Rattle.wire.specs.declared.refusals.Fault.{Fault}
 use Rattle.wire.specs.declared.refusals.Refusal.TheVariants.{BufferTooSmall}
-use Rattle.wire.specs.declared.refusals.Verdict.{Verdict}
-use Rattle.wire.specs.declared.refusals.Verdict.TheVariants.{Accept, Refuse}
+use Rattle.wire.specs.Told.{Verdict}
 use Rattle.hpai.specs.Hpai as Hpai
-use Rattle.hpai.specs.declared.HpaiAnswer.{HpaiAnswer}
+use Rattle.hpai.specs.declared.Hpai.{Hpai}
 use Rattle.connect.specs.EndpointLaws as EndpointLaws
 use Rattle.connect.specs.Response.{fields, format, values, layout, checks, told, parse_where, Arrays, ParsePromise, bare, parse_standard_where, ParseStandardPromise}
 use Rattle.connect.specs.declared.response.ConnectResponse.{ConnectResponse}
-use Rattle.connect.specs.declared.response.ConnectResponseAnswer.{ConnectResponseAnswer}
 
 -- ---- on from the endpoint, which stands from 2 to 10
 
-module _ (s : List ℕ) (enough : 14 ≤ length s) (h : HpaiAnswer) (parsed : Hpai.ParsePromise (take 8 (drop 2 s)) h) where
+module _ (s : List ℕ) (enough : 14 ≤ length s) (h : Result Hpai Fault) (parsed : Hpai.ParsePromise (take 8 (drop 2 s)) h) where
   -- the endpoint's refusal is the response's, 2 later
   pub fell : (h.number ≡ 0 → ⊥) → record { number = h.number; values = 0 ∷ 0 ∷ 0 ∷ 0 ∷ 0 ∷ 0 ∷ 0 ∷ 0 ∷ 0 ∷ 0 ∷ 0 ∷ 0 ∷ 0 ∷ []; start = 0; end = 0; offset = 2 + h.offset } ≡ parse_where s
   fell some = simp (le-ltb (length s) 14 enough) (EndpointLaws.refuses s (omega arith) h parsed (done (get fields 0 s)) some)
@@ -60,22 +58,22 @@ response_of_values c a =
     let five : length (ip ++ port ∷ []) ≡ 5 = length-append ip (port ∷ []) ∙ omega (arith, a.address_4) in
     rw (address, number, drop_at (ip ++ port ∷ []) c.crd 5 five)
 
-told_one : (r q : ConnectResponseAnswer) → Arrays r.response → Arrays q.response → told r ≡ told q → r ≡ q
+told_one : (r q : Result ConnectResponse Fault) → Arrays r.response → Arrays q.response → told r ≡ told q → r ≡ q
 told_one r q a b e =
-    let back : Told → ConnectResponseAnswer = λ t. record { number = t.number; response = response_of t.values; offset = t.offset } in
+    let back : Told → (Result ConnectResponse Fault) = λ t. record { number = t.number; response = response_of t.values; offset = t.offset } in
     let of-r : back (told r) ≡ r = ap (λ (c : ConnectResponse). record { number = r.number; response = c; offset = r.offset }) (response_of_values r.response a) in
     let of-q : back (told q) ≡ q = ap (λ (c : ConnectResponse). record { number = q.number; response = c; offset = q.offset }) (response_of_values q.response b) in
     sym of-r ∙ ap back e ∙ of-q
 
-pub parse_one : (s : List ℕ) (r q : ConnectResponseAnswer) → ParsePromise s r → ParsePromise s q → r ≡ q
+pub parse_one : (s : List ℕ) (r q : Result ConnectResponse Fault) → ParsePromise s r → ParsePromise s q → r ≡ q
 parse_one s r q a b = told_one r q a.1 b.1 (same a.0 b.0)
 
-pub parse_standard_one : (s : List ℕ) (r q : ConnectResponseAnswer) → ParseStandardPromise s r → ParseStandardPromise s q → r ≡ q
+pub parse_standard_one : (s : List ℕ) (r q : Result ConnectResponse Fault) → ParseStandardPromise s r → ParseStandardPromise s q → r ≡ q
 parse_standard_one s r q a b = told_one r q a.1 b.1 (same a.0 b.0)
 
 -- ---- both ways
 
-abbrev pub accepted : ConnectResponse → ConnectResponseAnswer
+abbrev pub accepted : ConnectResponse → Result ConnectResponse Fault
 accepted c = record { number = 0; response = c; offset = 0 }
 
 length-values : (c : ConnectResponse) → Arrays c → length (values c) ≡ 13
@@ -133,10 +131,10 @@ knx_back c rest a e zero = as_01 (layout c ++ rest) zero ∙ reads_back c rest a
 
 -- the status that is told is the body's
 status_01 : (s : List ℕ) (v : Verdict) → get_or s 1 0 ≡ 0 → get_or (answer v (done (get fields 0 s))).values 1 0 ≡ 0
-status_01 s Accept zero = zero
-status_01 s (Refuse e) zero = refl
+status_01 s (Ok tt) zero = zero
+status_01 s (Err e) zero = refl
 
-status_is : (s : List ℕ) (r : ConnectResponseAnswer) → ParseStandardPromise s r → (r.response.status ≡ 0) ↔ (get_or s 1 0 ≡ 0)
+status_is : (s : List ℕ) (r : Result ConnectResponse Fault) → ParseStandardPromise s r → (r.response.status ≡ 0) ↔ (get_or s 1 0 ≡ 0)
 status_is s r q = (λ z. go (eqb (get_or s 1 0) 0) refl z, λ zero. ap (λ (t : Told). get_or t.values 1 0) (q.0 ∙ as_01 s zero) ∙ status_01 s (verdict (checks (length s) (get fields 0 s))) zero)
   where
     go : (b : Bool) → eqb (get_or s 1 0) 0 ≡ b → r.response.status ≡ 0 → get_or s 1 0 ≡ 0
@@ -149,7 +147,7 @@ first_two [] some = absurd (some refl)
 first_two (x ∷ []) some = absurd (some refl)
 first_two (x ∷ y ∷ s) some = refl
 
-pub bare_has_layout : (s : List ℕ) (r : ConnectResponseAnswer) → ParseStandardPromise s r → (r.response.status ≡ 0 → ⊥)
+pub bare_has_layout : (s : List ℕ) (r : Result ConnectResponse Fault) → ParseStandardPromise s r → (r.response.status ≡ 0 → ⊥)
     → take 2 s ≡ put (byte ∷ byte ∷ []) (r.response.channel_id ∷ r.response.status ∷ [])
 bare_has_layout s r q some =
     let other : get_or s 1 0 ≡ 0 → ⊥ = λ z. some ((status_is s r q).1 z) in

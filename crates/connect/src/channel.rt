@@ -3,7 +3,7 @@ ghost use Rattle.connect.specs.Channel.{StateNewPromise, StateBuildPromise, Stat
 
 use constants::ServiceType;
 use hpai::Hpai;
-use wire::{Fault, Refusal, Written};
+use wire::{Fault, Refusal};
 
 #[derive(Clone, Copy)]
 pub struct ConnectionStateRequest {
@@ -15,12 +15,6 @@ pub struct ConnectionStateRequest {
 pub struct ConnectionStateResponse {
     pub channel_id: u8,
     pub status: u8,
-}
-
-#[derive(Clone, Copy)]
-pub enum ConnectionStateAnswer {
-    Response(ConnectionStateResponse),
-    Refused(Fault),
 }
 
 #[derive(Clone, Copy)]
@@ -43,23 +37,11 @@ pub struct DisconnectResponse {
     pub status: u8,
 }
 
-#[derive(Clone, Copy)]
-pub enum DisconnectAnswer {
-    Response(DisconnectResponse),
-    Refused(Fault),
-}
-
 // What both responses hold.
 #[derive(Clone, Copy)]
 pub(crate) struct Status {
     pub(crate) channel_id: u8,
     pub(crate) status: u8,
-}
-
-#[derive(Clone, Copy)]
-pub(crate) enum StatusAnswer {
-    Status(Status),
-    Refused(Fault),
 }
 
 impl ConnectionStateRequest {
@@ -72,7 +54,7 @@ impl ConnectionStateRequest {
         }
     }
 
-    pub fn build(self, buf: &mut [u8]) -> Written
+    pub fn build(self, buf: &mut [u8]) -> Result<usize, Refusal>
         ensures { StateBuildPromise self buf.old result buf.new }
     {
         let control_endpoint = self.control_endpoint;
@@ -86,15 +68,15 @@ impl ConnectionStateRequest {
 }
 
 impl ConnectionStateResponse {
-    pub fn parse(data: &[u8]) -> ConnectionStateAnswer
+    pub fn parse(data: &[u8]) -> Result<ConnectionStateResponse, Fault>
         ensures { StateParsePromise «data».now result }
     {
         match read_status(data) {
-            StatusAnswer::Status(s) => ConnectionStateAnswer::Response(ConnectionStateResponse {
+            Ok(s) => Ok(ConnectionStateResponse {
                 channel_id: s.channel_id,
                 status: s.status,
             }),
-            StatusAnswer::Refused(fault) => ConnectionStateAnswer::Refused(fault),
+            Err(fault) => Err(fault),
         }
     }
 
@@ -115,7 +97,7 @@ impl DisconnectRequest {
         }
     }
 
-    pub fn build(self, buf: &mut [u8]) -> Written
+    pub fn build(self, buf: &mut [u8]) -> Result<usize, Refusal>
         ensures { DisconnectBuildPromise self buf.old result buf.new }
     {
         let control_endpoint = self.control_endpoint;
@@ -159,22 +141,22 @@ impl DisconnectResponse {
     }
 
     // The answer that a gateway's disconnect request is owed.
-    pub fn build(self, buf: &mut [u8]) -> Written
+    pub fn build(self, buf: &mut [u8]) -> Result<usize, Refusal>
         ensures { DisconnectResponseBuildPromise self buf.old result buf.new }
     {
         let body = [self.channel_id, self.status];
         frame::write_frame(ServiceType::DisconnectResponse, &body, buf)
     }
 
-    pub fn parse(data: &[u8]) -> DisconnectAnswer
+    pub fn parse(data: &[u8]) -> Result<DisconnectResponse, Fault>
         ensures { DisconnectParsePromise «data».now result }
     {
         match read_status(data) {
-            StatusAnswer::Status(s) => DisconnectAnswer::Response(DisconnectResponse {
+            Ok(s) => Ok(DisconnectResponse {
                 channel_id: s.channel_id,
                 status: s.status,
             }),
-            StatusAnswer::Refused(fault) => DisconnectAnswer::Refused(fault),
+            Err(fault) => Err(fault),
         }
     }
 
@@ -191,7 +173,7 @@ fn request(
     channel_id: u8,
     control_endpoint: Hpai,
     buf: &mut [u8],
-) -> Written
+) -> Result<usize, Refusal>
     ensures { RequestPromise service_type channel_id control_endpoint buf.old result buf.new }
 {
     let front = [channel_id, 0];
@@ -200,16 +182,16 @@ fn request(
 }
 
 // A response of 2 bytes or more.
-fn read_status(data: &[u8]) -> StatusAnswer
+fn read_status(data: &[u8]) -> Result<Status, Fault>
     ensures { StatusPromise «data».now result }
 {
     if data.len() < 2 {
-        return StatusAnswer::Refused(Fault {
+        return Err(Fault {
             why: Refusal::BufferTooSmall,
             at: data.len(),
         });
     }
-    StatusAnswer::Status(Status {
+    Ok(Status {
         channel_id: data[0],
         status: data[1],
     })

@@ -25,26 +25,20 @@ pub enum ServiceType {
     TunnellingAck,
 }
 
-#[derive(Clone, Copy)]
-pub enum ServiceAnswer {
-    Service(ServiceType),
-    Refused(Fault),
-}
-
 impl ServiceType {
-    pub fn from_u16(code: u16) -> ServiceAnswer
+    pub fn from_u16(code: u16) -> Result<ServiceType, Fault>
         ensures { FromPromise code result }
     {
         match code {
-            0x0205 => ServiceAnswer::Service(ServiceType::ConnectRequest),
-            0x0206 => ServiceAnswer::Service(ServiceType::ConnectResponse),
-            0x0207 => ServiceAnswer::Service(ServiceType::ConnectionstateRequest),
-            0x0208 => ServiceAnswer::Service(ServiceType::ConnectionstateResponse),
-            0x0209 => ServiceAnswer::Service(ServiceType::DisconnectRequest),
-            0x020A => ServiceAnswer::Service(ServiceType::DisconnectResponse),
-            0x0420 => ServiceAnswer::Service(ServiceType::TunnellingRequest),
-            0x0421 => ServiceAnswer::Service(ServiceType::TunnellingAck),
-            _ => ServiceAnswer::Refused(Fault {
+            0x0205 => Ok(ServiceType::ConnectRequest),
+            0x0206 => Ok(ServiceType::ConnectResponse),
+            0x0207 => Ok(ServiceType::ConnectionstateRequest),
+            0x0208 => Ok(ServiceType::ConnectionstateResponse),
+            0x0209 => Ok(ServiceType::DisconnectRequest),
+            0x020A => Ok(ServiceType::DisconnectResponse),
+            0x0420 => Ok(ServiceType::TunnellingRequest),
+            0x0421 => Ok(ServiceType::TunnellingAck),
+            _ => Err(Fault {
                 why: Refusal::UnsupportedServiceType,
                 at: 0,
             }),

@@ -1,17 +1,17 @@
 -- How a frame is laid into a buffer, piece behind piece. Assumes nothing.
-use Rattle.std.specs.Prelude.{ℕ, ◌+◌, ◌≤◌, ◌≡◌, refl, List, [], ◌∷◌, ◌++◌, length}
+use Rattle.std.specs.Prelude.{ℕ, ◌+◌, ◌≤◌, ◌≡◌, refl, List, [], ◌∷◌, ◌++◌, length, Result}
 use Rattle.std.proofs.Common.{arith, ap, ◌∙◌, length-append}
 use Rattle.wire.specs.Layout.{put, copied}
 use Rattle.wire.specs.LayoutLaws.{copied_behind, length_three}
 use Rattle.wire.specs.Told.{Check, verdict}
 use Rattle.wire.specs.Writing.{onto, Writes}
 use Rattle.wire.specs.WritingLaws.{writes_one, writes_as}
-use Rattle.wire.specs.declared.refusals.Written.{Written}
 use Rattle.constants.specs.Constants.{header_size, version10}
 use Rattle.constants.specs.Services.{code_of}
 use Rattle.constants.specs.declared.services.ServiceType.{ServiceType}
 use Rattle.header.specs.Header.{fields}
 use Rattle.frame.specs.Write.{frame, frame_checks, WriteFramePromise}
+use Rattle.wire.specs.declared.refusals.Refusal.{Refusal}
 
 -- the header of a total length
 abbrev pub lead : ServiceType → ℕ → List ℕ
@@ -42,7 +42,7 @@ laid s a b c buf one two three four room e₁ e₂ e₃ e₄ =
     behind-c ∙ ap (λ (t : ℕ). onto buf (lead s t ++ (a ++ b ++ c))) (sum_of a b c)
 
 -- a builder that hands its body to the writer: the body put otherwise, and checks of its own that say the same
-pub framed : (s : ServiceType) (cs : List Check) (body whole before : List ℕ) (r : Written) (after : List ℕ)
+pub framed : (s : ServiceType) (cs : List Check) (body whole before : List ℕ) (r : Result ℕ Refusal) (after : List ℕ)
     → body ≡ whole → verdict (frame_checks (length whole) (length before)) ≡ verdict cs
     → WriteFramePromise s body before r after → Writes cs (frame s whole) before r after
 framed s cs body whole before r after e v x =
@@ -51,6 +51,6 @@ framed s cs body whole before r after e v x =
     (ap (frame s) e)
     x
 
-pub write_one : (s : ServiceType) (body before : List ℕ) (r q : Written) (after later : List ℕ)
+pub write_one : (s : ServiceType) (body before : List ℕ) (r q : Result ℕ Refusal) (after later : List ℕ)
     → WriteFramePromise s body before r after → WriteFramePromise s body before q later → (r ≡ q) × (after ≡ later)
 write_one s body before = writes_one (frame_checks (length body) (length before)) (frame s body) before

@@ -1,15 +1,14 @@
 -- 01, "`Hpai`": 8 bytes: length, protocol, address (4), port. Assumes nothing.
-use Rattle.std.specs.Prelude.{ℕ, ◌≡◌, refl, List, [], ◌∷◌, ◌++◌, length, get_or}
+use Rattle.std.specs.Prelude.{ℕ, ◌≡◌, refl, List, [], ◌∷◌, ◌++◌, length, get_or, Result}
 use Rattle.wire.specs.Told.{Told, refused, Check, ◌⇒◌, differs}
 use Rattle.wire.specs.Writing.{Writes, room}
 use Rattle.wire.specs.Layout.{Field, byte, word, run, size, put}
 use Rattle.wire.specs.Format.{Format, checks_of, offsets_of, found_in, read_by01}
 use Rattle.wire.specs.declared.refusals.Fault.{Fault}
 use Rattle.wire.specs.declared.refusals.Refusal.TheVariants.{InvalidFrame}
-use Rattle.wire.specs.declared.refusals.Written.{Written}
 use Rattle.constants.specs.Constants.{ipv4_udp}
 use Rattle.hpai.specs.declared.Hpai.{Hpai}
-use Rattle.hpai.specs.declared.HpaiAnswer.{HpaiAnswer}
+use Rattle.wire.specs.declared.refusals.Refusal.{Refusal}
 
 -- length, protocol, address (4), port
 abbrev pub fields : List Field
@@ -46,7 +45,7 @@ checks n vs = checks_of format n vs
 abbrev pub offsets : ℕ → List ℕ
 offsets n = offsets_of format n
 
-abbrev pub told : HpaiAnswer → Told
+abbrev pub told : Result Hpai Fault → Told
 told r = record { number = r.number; values = values r.hpai; start = 0; end = 0; offset = r.offset }
 
 abbrev pub parse_by01 : List ℕ → Told
@@ -56,11 +55,11 @@ parse_by01 s = read_by01 format s
 abbrev pub parse_where : List ℕ → Told
 parse_where s = found_in format s (parse_by01 s)
 
-abbrev pub ParsePromise : List ℕ → HpaiAnswer → Type 0
+abbrev pub ParsePromise : List ℕ → Result Hpai Fault → Type 0
 ParsePromise s r = told r ≡ parse_where s
 
 -- seven zeros beside the number
-abbrev pub RefusedPromise : Fault → HpaiAnswer → Type 0
+abbrev pub RefusedPromise : Fault → Result Hpai Fault → Type 0
 RefusedPromise e r = told r ≡ refused 7 e
 
 -- for IPv4 over UDP
@@ -71,5 +70,5 @@ NewPromise ip port r = r ≡ record { structure_length = size fields; host_proto
 abbrev pub encode_checks : ℕ → List Check
 encode_checks m = room (size fields) m ∷ []
 
-abbrev pub EncodePromise : Hpai → List ℕ → Written → List ℕ → Type 0
+abbrev pub EncodePromise : Hpai → List ℕ → Result ℕ Refusal → List ℕ → Type 0
 EncodePromise h b r after = Writes (encode_checks (length b)) (layout h) b r after

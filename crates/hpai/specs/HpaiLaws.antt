@@ -1,5 +1,5 @@
 -- An Hpai both ways: what is written is read back, what is accepted has the layout of its answer; and no second answer. Assumes nothing.
-use Rattle.std.specs.Prelude.{ℕ, ◌-◌, ◌≡◌, refl, List, [], ◌∷◌, ◌++◌, length, get_or, take, drop}
+use Rattle.std.specs.Prelude.{ℕ, ◌-◌, ◌≡◌, refl, List, [], ◌∷◌, ◌++◌, length, get_or, take, drop, Result, Ok}
 use Rattle.std.proofs.Common.{arith, sym, ap, ◌∙◌, length-append, eq-eqb}
 use Rattle.std.proofs.Math.Seq.{get_or-append_seam, take-append_seam}
 use Rattle.wire.specs.Told.{Told}
@@ -8,10 +8,10 @@ use Rattle.wire.specs.Layout.{high_of, low_of, run_at, put}
 use Rattle.wire.specs.FormatLaws as FormatLaws
 use Rattle.wire.specs.LayoutLaws.{Bytes, run-all, length-put}
 use Rattle.wire.specs.WritingLaws.{writes_one, wrote}
-use Rattle.wire.specs.declared.refusals.Written.{Written}
 use Rattle.hpai.specs.Hpai.{fields, format, values, layout, told, parse_where, ParsePromise, encode_checks, EncodePromise}
 use Rattle.hpai.specs.declared.Hpai.{Hpai}
-use Rattle.hpai.specs.declared.HpaiAnswer.{HpaiAnswer}
+use Rattle.wire.specs.declared.refusals.Refusal.{Refusal}
+use Rattle.wire.specs.declared.refusals.Fault.{Fault}
 
 -- the address's four bytes one by one
 pub layout_is : (h : Hpai) → length h.ip_address ≡ 4
@@ -43,13 +43,13 @@ hpai_of_values h =
     let k : length (values h) - 3 ≡ length ip = omega (arith, length-append ip (h.port ∷ [])) in
     rw (k, take-append_seam ip (h.port ∷ []), get_or-append_seam ip h.port [] 0)
 
-pub told_one : (r q : HpaiAnswer) → told r ≡ told q → r ≡ q
+pub told_one : (r q : Result Hpai Fault) → told r ≡ told q → r ≡ q
 told_one = one_to_one told (λ t. record { number = t.number; hpai = hpai_of t.values; offset = t.offset }) (λ r. ap (λ (h : Hpai). record { number = r.number; hpai = h; offset = r.offset }) (hpai_of_values r.hpai))
 
-pub parse_one : (s : List ℕ) (r q : HpaiAnswer) → ParsePromise s r → ParsePromise s q → r ≡ q
+pub parse_one : (s : List ℕ) (r q : Result Hpai Fault) → ParsePromise s r → ParsePromise s q → r ≡ q
 parse_one s r q a b = told_one r q (same a b)
 
-pub encode_one : (h : Hpai) (b : List ℕ) (r q : Written) (after later : List ℕ)
+pub encode_one : (h : Hpai) (b : List ℕ) (r q : Result ℕ Refusal) (after later : List ℕ)
     → EncodePromise h b r after → EncodePromise h b q later → (r ≡ q) × (after ≡ later)
 encode_one h b = writes_one (encode_checks (length b)) (layout h) b
 
@@ -60,14 +60,14 @@ pub record Proper (h : Hpai) : Type 0 where
   pub length_8 : h.structure_length ≡ 8
   pub address_4 : length h.ip_address ≡ 4
 
-abbrev pub accepted : Hpai → HpaiAnswer
+abbrev pub accepted : Hpai → Result Hpai Fault
 accepted h = record { number = 0; hpai = h; offset = 0 }
 
 pub reads_back : (h : Hpai) (rest : List ℕ) → Proper h → parse_where (layout h ++ rest) ≡ told (accepted h)
 reads_back h rest p = FormatLaws.reads_back format (values h) rest (length-values h p.address_4) (simp (eq-eqb _ _ p.length_8))
 
-pub encode_parse : (h : Hpai) (b : List ℕ) (n : ℕ) (after : List ℕ) (r : HpaiAnswer)
-    → Proper h → EncodePromise h b (Written.Bytes n) after → ParsePromise after r → r ≡ accepted h
+pub encode_parse : (h : Hpai) (b : List ℕ) (n : ℕ) (after : List ℕ) (r : Result Hpai Fault)
+    → Proper h → EncodePromise h b (Ok n) after → ParsePromise after r → r ≡ accepted h
 encode_parse h b n after r p e q =
     told_one r (accepted h) (q ∙ ap parse_where (wrote (encode_checks (length b)) (layout h) b n after e).bytes ∙ reads_back h (drop (length (layout h)) b) p)
 

@@ -4,7 +4,7 @@
 ghost use Rattle.hpai.specs.Hpai.{NewPromise, ParsePromise, EncodePromise, ToBytesPromise, RefusedPromise};
 
 use constants::IPV4_UDP;
-use wire::{Fault, Refusal, Written};
+use wire::{Fault, Refusal};
 
 #[derive(Clone, Copy)]
 pub struct Hpai {
@@ -67,7 +67,7 @@ impl Hpai {
     }
 
     // Writes the fields as they are, the length too.
-    pub fn encode(self, buf: &mut [u8]) -> Written
+    pub fn encode(self, buf: &mut [u8]) -> Result<usize, Refusal>
         ensures { EncodePromise self buf.old result buf.new }
     {
         let bytes = self.to_bytes();

@@ -6,7 +6,6 @@ use crate::reading::{Turned, Went};
 use crate::{printing, reading, turning};
 use inspection::Progress;
 use std::io::Read;
-use wire::Written;
 
 // Prints what there is to say of a capture; false where nothing more can be written.
 pub(crate) fn capture<F: Read>(
@@ -69,7 +68,7 @@ fn finish(rt: &HostRuntime, out: &mut [u8], last: Turned) -> bool {
 }
 
 // Whether a record is cut, and how many there were.
-fn last_lines(progress: Progress, out: &mut [u8]) -> Written
+fn last_lines(progress: Progress, out: &mut [u8]) -> Result<usize, Refusal>
     ensures { LastPromise progress out.old result out.new }
 {
     let spot = progress.spot;
@@ -82,9 +81,9 @@ fn too_long(rt: &HostRuntime, lines: &[u8]) -> bool {
 }
 
 // How much of the output a line takes: nothing where it has no room.
-fn size(written: Written) -> usize {
+fn size(written: Result<usize, Refusal>) -> usize {
     match written {
-        Written::Bytes(k) => k,
-        Written::Refused(_) => 0,
+        Ok(k) => k,
+        Err(_) => 0,
     }
 }

@@ -1,11 +1,10 @@
 -- The inspection of a capture, as the program goes about it: once its start is read it scans its buffer, writes out what is gathered, moves what is left to the front and reads on, in any order and at any moment. All that it writes is what 01 says of the capture. Assumes nothing.
-use Rattle.std.specs.Prelude.{ℕ, ◌+◌, ◌-◌, ◌≤◌, ◌≡◌, refl, Bool, true, false, List, [], ◌∷◌, ◌++◌, length, take, drop, ltb}
+use Rattle.std.specs.Prelude.{ℕ, ◌+◌, ◌-◌, ◌≤◌, ◌≡◌, refl, Bool, true, false, List, [], ◌∷◌, ◌++◌, length, take, drop, ltb, Ok}
 use Rattle.std.proofs.Common.{arith, sym, ap, subst, ◌∙◌, append_assoc, append-nil, length-append, length-drop, take-append-drop, take_at}
 use Rattle.std.proofs.lemmas.List.{drop-append-le}
 use Rattle.wire.specs.ToldLaws.{same_test}
 use Rattle.wire.specs.Writing.{room}
 use Rattle.wire.specs.WritingLaws.{wrote}
-use Rattle.wire.specs.declared.refusals.Written.TheVariants.{Bytes}
 use Rattle.kip.specs.Capture.{starts_by01, whole, records, unfinished}
 use Rattle.kip.specs.CaptureLaws.{starts_five, starts_more}
 use Rattle.inspection.specs.Lines.{heading_of, ending_of, EndingPromise}
@@ -75,7 +74,7 @@ pub scan_steps : (i : Inspecting) (r : Scanned) (after : List ℕ) → ScanPromi
     → stepped i ScanOn ≡ record { buffer = i.buffer; ahead = i.ahead; spot = r.spot; out = after; written = i.written }
 scan_steps i r after p = ap (scanned_on i) (sym p)
 
-pub ending_writes : (n : ℕ) (cut : Bool) (out : List ℕ) (k : ℕ) (after : List ℕ) → EndingPromise n cut out (Bytes k) after → take k after ≡ ending_of n cut
+pub ending_writes : (n : ℕ) (cut : Bool) (out : List ℕ) (k : ℕ) (after : List ℕ) → EndingPromise n cut out (Ok k) after → take k after ≡ ending_of n cut
 ending_writes n cut out k after p =
     let w : List ℕ = ending_of n cut in
     let x = wrote (room (length w) (length out) ∷ []) w out k after p in

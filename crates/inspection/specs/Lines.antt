@@ -1,11 +1,12 @@
 -- "KIP 1", "1 0421 11", "2 refused 2", "records 2": the lines of an inspection, each with its line feed. Assumes nothing.
-use Rattle.std.specs.Prelude.{ℕ, ◌≡◌, Bool, cond, List, [], ◌∷◌, ◌++◌, length, get_or, eqb}
+use Rattle.std.specs.Prelude.{ℕ, ◌≡◌, Bool, cond, List, [], ◌∷◌, ◌++◌, length, get_or, eqb, Result}
 use Rattle.wire.specs.Told.{Told}
 use Rattle.wire.specs.Writing.{WritePromise}
-use Rattle.wire.specs.declared.refusals.Written.{Written}
 use Rattle.digits.specs.Digits.{decimal, hex4}
 use Rattle.frame.specs.Judging.{told}
 use Rattle.frame.specs.declared.judging.Judged.{Judged}
+use Rattle.wire.specs.declared.refusals.Refusal.{Refusal}
+use Rattle.wire.specs.declared.refusals.Fault.{Fault}
 
 -- "KIP 1", or "not KIP 1" for another start
 abbrev pub kip_text : List ℕ
@@ -14,7 +15,7 @@ kip_text = 75 ∷ 73 ∷ 80 ∷ 32 ∷ 49 ∷ 10 ∷ []
 abbrev pub heading_of : Bool → List ℕ
 heading_of kip = cond kip kip_text (110 ∷ 111 ∷ 116 ∷ 32 ∷ kip_text)
 
-abbrev pub HeadingPromise : Bool → List ℕ → Written → List ℕ → Type 0
+abbrev pub HeadingPromise : Bool → List ℕ → Result ℕ Refusal → List ℕ → Type 0
 HeadingPromise kip out r after = WritePromise (heading_of kip) out r after
 
 -- a text, a number and a line feed
@@ -25,7 +26,7 @@ closing text n = text ++ decimal n ++ 10 ∷ []
 abbrev pub numbered : ℕ → List ℕ → ℕ → List ℕ
 numbered n text last = decimal n ++ closing text last
 
-abbrev pub NumberedPromise : ℕ → List ℕ → ℕ → List ℕ → Written → List ℕ → Type 0
+abbrev pub NumberedPromise : ℕ → List ℕ → ℕ → List ℕ → Result ℕ Refusal → List ℕ → Type 0
 NumberedPromise n text last out r after = WritePromise (numbered n text last) out r after
 
 -- a space, the service, a space
@@ -40,11 +41,11 @@ refused_text = 32 ∷ 114 ∷ 101 ∷ 102 ∷ 117 ∷ 115 ∷ 101 ∷ 100 ∷ 32
 abbrev pub line_told : ℕ → Told → List ℕ
 line_told n t = cond (eqb t.number 0) (numbered n (service_text (get_or t.values 0 0)) (get_or t.values 1 0)) (numbered n refused_text t.number)
 
-abbrev pub line_of : ℕ → Judged → List ℕ
+abbrev pub line_of : ℕ → Result Judged Fault → List ℕ
 line_of n j = line_told n (told j)
 
 -- written at the start of the output, or not at all where it does not fit (1)
-abbrev pub LinePromise : ℕ → Judged → List ℕ → Written → List ℕ → Type 0
+abbrev pub LinePromise : ℕ → Result Judged Fault → List ℕ → Result ℕ Refusal → List ℕ → Type 0
 LinePromise n j out r after = WritePromise (line_of n j) out r after
 
 -- "an unfinished record prints the line `cut`, then the `records` line with the whole ones counted"
@@ -63,5 +64,5 @@ records_text = 114 ∷ 101 ∷ 99 ∷ 111 ∷ 114 ∷ 100 ∷ 115 ∷ 32 ∷ []
 abbrev pub ending_of : ℕ → Bool → List ℕ
 ending_of n cut = cut_front cut ++ closing records_text n
 
-abbrev pub EndingPromise : ℕ → Bool → List ℕ → Written → List ℕ → Type 0
+abbrev pub EndingPromise : ℕ → Bool → List ℕ → Result ℕ Refusal → List ℕ → Type 0
 EndingPromise n cut out r after = WritePromise (ending_of n cut) out r after

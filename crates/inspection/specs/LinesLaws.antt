@@ -1,5 +1,5 @@
 -- A line is its parts, each copied right behind what stands; no second answer. Assumes nothing.
-use Rattle.std.specs.Prelude.{ℕ, ◌+◌, ◌<◌, ◌≤◌, ◌≡◌, refl, List, [], ◌∷◌, ◌++◌, length, eqb, Bool, true, false}
+use Rattle.std.specs.Prelude.{ℕ, ◌+◌, ◌<◌, ◌≤◌, ◌≡◌, refl, List, [], ◌∷◌, ◌++◌, length, eqb, Bool, true, false, Result, Ok, Err}
 use Rattle.std.proofs.Common.{arith, sym, ap, ◌∙◌, length-append, lt-ltb, le-ltb}
 use Rattle.wire.specs.Told.{done}
 use Rattle.wire.specs.Writing.{onto, WritePromise}
@@ -8,11 +8,11 @@ use Rattle.wire.specs.Layout.{copied}
 use Rattle.wire.specs.LayoutLaws.{copied_front, copied_behind, copied_on, length_three}
 use Rattle.wire.specs.Parts.{part_of}
 use Rattle.wire.specs.declared.refusals.Refusal.TheVariants.{BufferTooSmall}
-use Rattle.wire.specs.declared.refusals.Written.{Written}
-use Rattle.wire.specs.declared.refusals.Written.TheVariants.{Bytes, Refused}
 use Rattle.digits.specs.Digits.{decimal}
 use Rattle.inspection.specs.Lines.{heading_of, HeadingPromise, closing, numbered, service_text, refused_text, line_of, LinePromise, cut_text, cut_front, ending_of, EndingPromise}
 use Rattle.frame.specs.declared.judging.Judged.{Judged}
+use Rattle.wire.specs.declared.refusals.Refusal.{Refusal}
+use Rattle.wire.specs.declared.refusals.Fault.{Fault}
 
 pub closing-length : (text : List ℕ) (n : ℕ) → length (closing text n) ≡ length text + length (decimal n) + 1
 closing-length text n = length_three text (decimal n) (10 ∷ [])
@@ -22,11 +22,11 @@ module _ (front text out : List ℕ) (n to-text to_end : ℕ) (a : to-text ≡ l
   line-length : length (front ++ closing text n) ≡ to_end + 1
   line-length = length-append front (closing text n) ∙ omega (arith, closing-length text n)
 
-  pub no_room : length out < to_end + 1 → WritePromise (front ++ closing text n) out (Refused BufferTooSmall) out
+  pub no_room : length out < to_end + 1 → WritePromise (front ++ closing text n) out (Err BufferTooSmall) out
   no_room h = let q = lt-ltb (length out) (length (front ++ closing text n)) (omega (arith, line-length)) in (simp q, simp q)
 
   pub laid : to_end + 1 ≤ length out → (one after : List ℕ) → one ≡ copied front out 0 → after ≡ copied (closing text n) one to-text
-      → WritePromise (front ++ closing text n) out (Bytes (to_end + 1)) after
+      → WritePromise (front ++ closing text n) out (Ok (to_end + 1)) after
   laid h one after p q =
       let fits = le-ltb (length out) (length (front ++ closing text n)) (omega (arith, line-length)) in
       let first : one ≡ onto out front = p ∙ copied_front front out (omega arith) in
@@ -52,19 +52,19 @@ pub cut_most : (cut : Bool) → length (cut_front cut) ≤ 4
 cut_most true = omega arith
 cut_most false = omega arith
 
-pub framed-line : (n : ℕ) (j : Judged) → eqb j.number 0 ≡ true → numbered n (service_text j.service) j.total ≡ line_of n j
+pub framed-line : (n : ℕ) (j : Result Judged Fault) → eqb j.number 0 ≡ true → numbered n (service_text j.service) j.total ≡ line_of n j
 framed-line n j e = rw e
 
-pub refused-line : (n : ℕ) (j : Judged) → eqb j.number 0 ≡ false → numbered n refused_text j.number ≡ line_of n j
+pub refused-line : (n : ℕ) (j : Result Judged Fault) → eqb j.number 0 ≡ false → numbered n refused_text j.number ≡ line_of n j
 refused-line n j e = rw e
 
-pub heading_one : (kip : Bool) (out : List ℕ) (r q : Written) (after later : List ℕ) → HeadingPromise kip out r after → HeadingPromise kip out q later → (r ≡ q) × (after ≡ later)
+pub heading_one : (kip : Bool) (out : List ℕ) (r q : Result ℕ Refusal) (after later : List ℕ) → HeadingPromise kip out r after → HeadingPromise kip out q later → (r ≡ q) × (after ≡ later)
 heading_one kip = write_one (heading_of kip)
 
-pub ending_one : (n : ℕ) (cut : Bool) (out : List ℕ) (r q : Written) (after later : List ℕ)
+pub ending_one : (n : ℕ) (cut : Bool) (out : List ℕ) (r q : Result ℕ Refusal) (after later : List ℕ)
     → EndingPromise n cut out r after → EndingPromise n cut out q later → (r ≡ q) × (after ≡ later)
 ending_one n cut = write_one (ending_of n cut)
 
-pub line_one : (n : ℕ) (j : Judged) (out : List ℕ) (r q : Written) (after later : List ℕ)
+pub line_one : (n : ℕ) (j : Result Judged Fault) (out : List ℕ) (r q : Result ℕ Refusal) (after later : List ℕ)
     → LinePromise n j out r after → LinePromise n j out q later → (r ≡ q) × (after ≡ later)
 line_one n j = write_one (line_of n j)

@@ -1,10 +1,9 @@
 -- What a scan of a buffer prints and where it stops: record after record, while a whole one is there, it can be counted, and its line fits. Assumes nothing.
-use Rattle.std.specs.Prelude.{ℕ, zero, suc, ◌+◌, ◌≡◌, cond, List, [], ◌∷◌, length, drop, leb, ltb}
+use Rattle.std.specs.Prelude.{ℕ, zero, suc, ◌+◌, ◌≡◌, cond, List, [], ◌∷◌, length, drop, leb, ltb, Result}
 use Rattle.wire.specs.Told.{done, judged, ◌⇒◌}
 use Rattle.wire.specs.Layout.{word_at, copied}
 use Rattle.wire.specs.Writing as Writing
 use Rattle.wire.specs.declared.refusals.Refusal.TheVariants.{BufferTooSmall}
-use Rattle.wire.specs.declared.refusals.Written.{Written}
 use Rattle.kip.specs.Capture.{whole, first_in}
 use Rattle.frame.specs.Judging.{judge_by01}
 use Rattle.inspection.specs.Lines.{line_told, line_of}
@@ -13,9 +12,11 @@ use Rattle.inspection.specs.declared.scanning.Spot.{Spot}
 use Rattle.inspection.specs.declared.scanning.Scanned.{Scanned}
 use Rattle.inspection.specs.declared.scanning.Stop.{Stop}
 use Rattle.inspection.specs.declared.scanning.Stop.TheVariants.{Short, Full, Last}
+use Rattle.wire.specs.declared.refusals.Refusal.{Refusal}
+use Rattle.wire.specs.declared.refusals.Fault.{Fault}
 
 -- written from a place on, or not at all where it does not fit (1)
-abbrev pub PutLinePromise : ℕ → Judged → ℕ → List ℕ → Written → List ℕ → Type 0
+abbrev pub PutLinePromise : ℕ → Result Judged Fault → ℕ → List ℕ → Result ℕ Refusal → List ℕ → Type 0
 PutLinePromise n j at out r after =
     (Writing.told r ≡ judged (ltb (length out) (at + length (line_of n j)) ⇒ BufferTooSmall ∷ []) (done (length (line_of n j) ∷ []))) × (after ≡ copied (line_of n j) out at)
 

@@ -1,5 +1,5 @@
 -- A scan, one turn at a time, as the code makes it; no second answer. Assumes nothing.
-use Rattle.std.specs.Prelude.{ℕ, zero, suc, ◌+◌, ◌-◌, ◌≤◌, ◌<◌, ◌≡◌, refl, Bool, true, false, cond, List, [], ◌∷◌, ◌++◌, length, get_or, take, drop, ltb}
+use Rattle.std.specs.Prelude.{ℕ, zero, suc, ◌+◌, ◌-◌, ◌≤◌, ◌<◌, ◌≡◌, refl, Bool, true, false, cond, List, [], ◌∷◌, ◌++◌, length, get_or, take, drop, ltb, Result, Ok, Err}
 use Rattle.std.proofs.Common.{arith, sym, ap, ◌∙◌, append_assoc, append-nil, length-drop, take-append-drop, drop_of_length-le, drop-drop, le-leb, le-ltb, lt-ltb, ltb-true, ltb-false}
 use Rattle.std.proofs.lemmas.Bool.{lt-leb}
 use Rattle.wire.specs.Clash.{never}
@@ -12,9 +12,6 @@ use Rattle.wire.specs.Writing.{onto, WritePromise}
 use Rattle.wire.specs.Writing as Writing
 use Rattle.wire.specs.declared.refusals.Refusal.{Refusal}
 use Rattle.wire.specs.declared.refusals.Refusal.TheVariants.{BufferTooSmall}
-use Rattle.wire.specs.declared.refusals.Verdict.TheVariants.{Accept, Refuse}
-use Rattle.wire.specs.declared.refusals.Written.{Written}
-use Rattle.wire.specs.declared.refusals.Written.TheVariants.{Bytes, Refused}
 use Rattle.kip.specs.Capture.{whole, first_in, NextPromise}
 use Rattle.frame.specs.Judging.{judge_by01, judge_where, JudgePromise}
 use Rattle.inspection.specs.Lines.{line_told, line_of}
@@ -26,6 +23,7 @@ use Rattle.frame.specs.declared.judging.Judged.{Judged}
 use Rattle.inspection.specs.declared.scanning.Spot.{Spot}
 use Rattle.inspection.specs.declared.scanning.Scanned.{Scanned}
 use Rattle.inspection.specs.declared.scanning.Stop.TheVariants.{Short, Full, Last}
+use Rattle.wire.specs.declared.refusals.Fault.{Fault}
 
 -- ---- one turn
 
@@ -59,7 +57,7 @@ hands (suc k) s at used n out h e m f =
 
 -- ---- a line behind what stands
 
-pub put-behind : (w out after : List ℕ) (at : ℕ) (r : Written) → at ≤ length out → WritePromise w (drop at out) r after
+pub put-behind : (w out after : List ℕ) (at : ℕ) (r : Result ℕ Refusal) → at ≤ length out → WritePromise w (drop at out) r after
     → (Writing.told r ≡ judged (ltb (length out) (at + length w) ⇒ BufferTooSmall ∷ []) (done (length w ∷ []))) × (take at out ++ after ≡ copied w out at)
 put-behind w out after at r h p = (p.0 ∙ ap (λ (b : Bool). judged (b ⇒ BufferTooSmall ∷ []) (done (length w ∷ []))) same, go (ltb (length out) (at + length w)) refl)
   where
@@ -99,16 +97,16 @@ pub record Put (w out : List ℕ) (at k : ℕ) : Type 0 where
   pub size : k ≡ length w
   pub fits : at + length w ≤ length out
 
-was_put : (w out : List ℕ) (at k : ℕ) → Writing.told (Bytes k) ≡ judged (ltb (length out) (at + length w) ⇒ BufferTooSmall ∷ []) (done (length w ∷ [])) → Put w out at k
+was_put : (w out : List ℕ) (at k : ℕ) → Writing.told (Ok k) ≡ judged (ltb (length out) (at + length w) ⇒ BufferTooSmall ∷ []) (done (length w ∷ [])) → Put w out at k
 was_put w out at k p =
     let cs = ltb (length out) (at + length w) ⇒ BufferTooSmall ∷ [] in
     let t = done (length w ∷ []) in
     record {
-      size = ap (λ (u : Told). get_or u.values 0 0) (let_through cs t (Writing.told (Bytes k)) refl p);
-      fits = ltb-false (length out) (at + length w) (holds [] (ltb (length out) (at + length w)) BufferTooSmall [] (was_accepted cs t (Writing.told (Bytes k)) refl p));
+      size = ap (λ (u : Told). get_or u.values 0 0) (let_through cs t (Writing.told (Ok k)) refl p);
+      fits = ltb-false (length out) (at + length w) (holds [] (ltb (length out) (at + length w)) BufferTooSmall [] (was_accepted cs t (Writing.told (Ok k)) refl p));
     }
 
-was_full : (w out : List ℕ) (at : ℕ) (e : Refusal) → Writing.told (Refused e) ≡ judged (ltb (length out) (at + length w) ⇒ BufferTooSmall ∷ []) (done (length w ∷ [])) → length out < at + length w
+was_full : (w out : List ℕ) (at : ℕ) (e : Refusal) → Writing.told (Err e) ≡ judged (ltb (length out) (at + length w) ⇒ BufferTooSmall ∷ []) (done (length w ∷ [])) → length out < at + length w
 was_full w out at e p = go (ltb (length out) (at + length w)) refl
   where
     cs : List Check
@@ -117,7 +115,7 @@ was_full w out at e p = go (ltb (length out) (at + length w)) refl
     go : (b : Bool) → ltb (length out) (at + length w) ≡ b → length out < at + length w
     go true f = ltb-true (length out) (at + length w) f
     go false f =
-        let q : Refuse e ≡ Accept = sym (was_refused cs (done (length w ∷ [])) 1 (nowhere e) refl p) ∙ ap (λ (b : Bool). verdict (b ⇒ BufferTooSmall ∷ [])) f in
+        let q : Err e ≡ Ok tt = sym (was_refused cs (done (length w ∷ [])) 1 (nowhere e) refl p) ∙ ap (λ (b : Bool). verdict (b ⇒ BufferTooSmall ∷ [])) f in
         never cc
 
 pub turn_short : (k : ℕ) (s : List ℕ) (at used n : ℕ) (out : List ℕ) → NextPromise s at Next.Short → scan_of k s at used n out ≡ stopped at used n out Short
@@ -142,8 +140,8 @@ pub record Turn : Type 0 where
   pub start : ℕ
   pub end : ℕ
   pub next : ℕ
-  pub told_of : Judged
-  pub answer : Written
+  pub told_of : Result Judged Fault
+  pub answer : Result ℕ Refusal
   pub after : List ℕ
   pub some : 1 ≤ turns
   pub counts : n < most
@@ -172,14 +170,14 @@ module _ (t : Turn) where
       ap (line_told t.next) (t.told_so ∙ ap judge_where there.datagram)
       ∙ ap (λ (m : ℕ). line_told m (judge_by01 (first_in (drop t.at t.input)))) t.counted
 
-  pub turn_full : (e : Refusal) → t.answer ≡ Refused e → scan_of t.turns t.input t.at t.used t.n t.out ≡ stopped t.at t.used t.n t.after Full
+  pub turn_full : (e : Refusal) → t.answer ≡ Err e → scan_of t.turns t.input t.at t.used t.n t.out ≡ stopped t.at t.used t.n t.after Full
   turn_full e refused =
       let none = was_full line t.out t.used e (ap Writing.told (sym refused) ∙ t.put.0) in
       let same_out : t.after ≡ t.out = t.put.1 ∙ simp (lt-leb (t.used + length line) (length t.out) none) in
       no_room t.turns t.input t.at t.used t.n t.out t.some there.is_there t.counts (omega (arith, ap length the_line))
       ∙ ap (λ (l : List ℕ). stopped t.at t.used t.n l Full) (sym same_out)
 
-  module _ (size : ℕ) (written : t.answer ≡ Bytes size) where
+  module _ (size : ℕ) (written : t.answer ≡ Ok size) where
     as_put : Put line t.out t.used size
     as_put = was_put line t.out t.used size (ap Writing.told (sym written) ∙ t.put.0)
 

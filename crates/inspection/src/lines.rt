@@ -5,10 +5,10 @@ ghost use Rattle.digits.specs.Digits.{decimal};
 ghost use Rattle.inspection.specs.Lines.{HeadingPromise, closing, LinePromise, EndingPromise, NumberedPromise, CutSizePromise};
 
 use frame::Judged;
-use wire::{Refusal, Written};
+use wire::Refusal;
 
 // The first line: whether the bytes start as a capture does.
-pub fn heading(kip: bool, out: &mut [u8]) -> Written
+pub fn heading(kip: bool, out: &mut [u8]) -> Result<usize, Refusal>
     ensures { HeadingPromise kip out.old result out.new }
 {
     if kip {
@@ -18,7 +18,7 @@ pub fn heading(kip: bool, out: &mut [u8]) -> Written
 }
 
 // The record's number in the capture, then service and total length, or the refusal.
-pub fn line(n: u64, judged: Judged, out: &mut [u8]) -> Written
+pub fn line(n: u64, judged: Judged, out: &mut [u8]) -> Result<usize, Refusal>
     ensures { LinePromise n judged out.old result out.new }
 {
     if judged.number == 0 {
@@ -31,22 +31,22 @@ pub fn line(n: u64, judged: Judged, out: &mut [u8]) -> Written
 }
 
 // A number, then what closes the line.
-fn numbered(n: u64, text: &[u8], last: u64, out: &mut [u8]) -> Written
+fn numbered(n: u64, text: &[u8], last: u64, out: &mut [u8]) -> Result<usize, Refusal>
     requires { length text.now ≤ 9 }
     ensures { NumberedPromise n text.now last out.old result out.new }
 {
     let to_text = digits::places(n);
     let to_end = to_text + text.len() + digits::places(last);
     if out.len() < to_end + 1 {
-        return Written::Refused(Refusal::BufferTooSmall);
+        return Err(Refusal::BufferTooSmall);
     }
     digits::put_digits(n, out, 0, to_text);
     close(text, last, out, to_text, to_end);
-    Written::Bytes(to_end + 1)
+    Ok(to_end + 1)
 }
 
 // The last lines: `cut` where a record is unfinished, and how many whole ones there were.
-pub fn ending(n: u64, cut: bool, out: &mut [u8]) -> Written
+pub fn ending(n: u64, cut: bool, out: &mut [u8]) -> Result<usize, Refusal>
     ensures { EndingPromise n cut out.old result out.new }
 {
     let front = [b'c', b'u', b't', b'\n'];
@@ -54,11 +54,11 @@ pub fn ending(n: u64, cut: bool, out: &mut [u8]) -> Written
     let to_text = cut_size(cut);
     let to_end = to_text + 8 + digits::places(n);
     if out.len() < to_end + 1 {
-        return Written::Refused(Refusal::BufferTooSmall);
+        return Err(Refusal::BufferTooSmall);
     }
     wire::copy_at(wire::part(&front, 0, to_text), out, 0);
     close(&text, n, out, to_text, to_end);
-    Written::Bytes(to_end + 1)
+    Ok(to_end + 1)
 }
 
 fn cut_size(cut: bool) -> usize

@@ -4,7 +4,7 @@ ghost use Rattle.inspection.specs.Scanning.{PutLinePromise, ScanPromise};
 use crate::lines;
 use frame::Judged;
 use kip::Next;
-use wire::{Refusal, Written};
+use wire::Refusal;
 
 // How far a buffer's records are handed on, how much of the output is used, and how many records there were.
 #[derive(Clone, Copy)]
@@ -48,8 +48,8 @@ pub fn scan(input: &[u8], out: &mut [u8], spot: Spot) -> Scanned
                 }
                 let judged = frame::judge(wire::part(input, start, end));
                 match put_line(n + 1, judged, out, used) {
-                    Written::Refused(_) => break Stop::Full,
-                    Written::Bytes(size) => {
+                    Err(_) => break Stop::Full,
+                    Ok(size) => {
                         used += size;
                         at = end;
                         n += 1;
@@ -66,11 +66,11 @@ pub fn scan(input: &[u8], out: &mut [u8], spot: Spot) -> Scanned
 }
 
 // A record's line from a place of the output on, or none of it.
-fn put_line(n: u64, judged: Judged, out: &mut [u8], at: usize) -> Written
+fn put_line(n: u64, judged: Judged, out: &mut [u8], at: usize) -> Result<usize, Refusal>
     ensures { PutLinePromise n judged at out.old result out.new }
 {
     if out.len() < at {
-        return Written::Refused(Refusal::BufferTooSmall);
+        return Err(Refusal::BufferTooSmall);
     }
     lines::line(n, judged, &mut out[at..])
 }

@@ -1,9 +1,8 @@
 -- What the border's builders promise: the promise of the builder below, whose answer is told in numbers. Assumes nothing.
-use Rattle.std.specs.Prelude.{ℕ, ◌≡◌, List, [], ◌∷◌}
+use Rattle.std.specs.Prelude.{ℕ, ◌≡◌, List, [], ◌∷◌, Result}
 use Rattle.wire.specs.Told.{Told}
 use Rattle.wire.specs.Layout.{size}
 use Rattle.wire.specs.Writing as Writing
-use Rattle.wire.specs.declared.refusals.Written.{Written}
 use Rattle.constants.specs.Constants.{ipv4_udp}
 use Rattle.pci.specs.Transport.{kind_of, sequence_of}
 use Rattle.pci.specs.PciLaws.{tpci_of}
@@ -28,16 +27,17 @@ use Rattle.tunnelling.specs.declared.request.TunnelingRequest.{TunnelingRequest}
 use Rattle.tunnelling.specs.declared.ack.TunnelingAck.{TunnelingAck}
 use Rattle.knx.specs.declared.building.KnxWritten.{KnxWritten}
 use Rattle.knx.specs.declared.building.KnxEndpoint.{KnxEndpoint}
+use Rattle.wire.specs.declared.refusals.Refusal.{Refusal}
 
 abbrev pub told : KnxWritten → Told
 told r = record { number = r.number; values = r.count ∷ []; start = 0; end = 0; offset = r.offset }
 
-abbrev pub WrittenPromise : Written → KnxWritten → Type 0
+abbrev pub WrittenPromise : Result ℕ Refusal → KnxWritten → Type 0
 WrittenPromise w r = told r ≡ Writing.told w
 
 -- r tells what an answer tells that, with the buffer afterwards, keeps the builder's promise P
-pub record Tells (P : Written → List ℕ → Type 0) (r : KnxWritten) (after : List ℕ) : Type 0 where
-  pub answer : Written
+pub record Tells (P : Result ℕ Refusal → List ℕ → Type 0) (r : KnxWritten) (after : List ℕ) : Type 0 where
+  pub answer : Result ℕ Refusal
   pub keeps : P answer after
   pub tells : WrittenPromise answer r
 

@@ -1,11 +1,10 @@
 -- The border's builders: how a builder's answer is told, no second answer, and a refusal leaves the buffer. Assumes nothing.
-use Rattle.std.specs.Prelude.{◌≡◌, refl, List, [], ◌∷◌, ◌++◌, ℕ, get_or}
+use Rattle.std.specs.Prelude.{◌≡◌, refl, List, [], ◌∷◌, ◌++◌, ℕ, get_or, Result}
 use Rattle.std.proofs.Common.{sym, ap, subst, ◌∙◌}
 use Rattle.wire.specs.Told.{Told}
 use Rattle.wire.specs.ToldLaws.{one_to_one}
 use Rattle.wire.specs.Refusing.{Refusing, Leaves}
 use Rattle.wire.specs.Writing as Writing
-use Rattle.wire.specs.declared.refusals.Written.{Written}
 use Rattle.pci.specs.Transport as Transport
 use Rattle.pci.specs.PciLaws.{tpci_of, tpci_back}
 use Rattle.pci.specs.declared.transport.Tpci.{Tpci}
@@ -26,9 +25,10 @@ use Rattle.tunnelling.specs.AckLaws as TunnelingAckLaws
 use Rattle.knx.specs.Building.{told, WrittenPromise, Tells, builder_of, endpoint_of, connect_of, state_of, disconnect_of, request_of, ack_of, LDataBuildInPromise, ConnectRequestPromise, ConnectionStateRequestPromise, DisconnectRequestPromise, TunnelingRequestPromise, TunnelingAckInPromise, response_of, DisconnectResponseBuildPromise}
 use Rattle.knx.specs.declared.building.KnxEndpoint.{KnxEndpoint}
 use Rattle.knx.specs.declared.building.KnxWritten.{KnxWritten}
+use Rattle.wire.specs.declared.refusals.Refusal.{Refusal}
 
 -- a builder's answer, told: the builder q was made as told
-pub as_told : {Q : Type 0} (P : Q → Written → List ℕ → Type 0) (made q : Q) (w : Written) (after : List ℕ) (r : KnxWritten)
+pub as_told : {Q : Type 0} (P : Q → Result ℕ Refusal → List ℕ → Type 0) (made q : Q) (w : Result ℕ Refusal) (after : List ℕ) (r : KnxWritten)
     → made ≡ q → P made w after → WrittenPromise w r → Tells (P q) r after
 as_told P made q w after r e k t = record { answer = w; keeps = subst (λ x. P x w after) e k; tells = t }
 
@@ -44,7 +44,7 @@ abbrev OneWritten : (KnxWritten → List ℕ → Type 0) → Type 0
 OneWritten P = (r q : KnxWritten) (after later : List ℕ) → P r after → P q later → (r ≡ q) × (after ≡ later)
 
 -- a builder's promise that has no second answer has none when it is told
-pub tells_one : (P : Written → List ℕ → Type 0) → ((w v : Written) (after later : List ℕ) → P w after → P v later → (w ≡ v) × (after ≡ later)) → OneWritten (Tells P)
+pub tells_one : (P : Result ℕ Refusal → List ℕ → Type 0) → ((w v : Result ℕ Refusal) (after later : List ℕ) → P w after → P v later → (w ≡ v) × (after ≡ later)) → OneWritten (Tells P)
 tells_one P one r q after later x y =
     let both = one x.answer y.answer after later x.keeps y.keeps in
     (told_one r q (x.tells ∙ ap Writing.told both.0 ∙ sym y.tells), both.1)
@@ -78,7 +78,7 @@ pub disconnect_response_one : (channel status : ℕ) (b : List ℕ) → OneWritt
 disconnect_response_one channel status b = tells_one (Channel.DisconnectResponseBuildPromise (response_of channel status) b) (ChannelLaws.response_one (response_of channel status) b)
 
 -- demand 1 of a builder is demand 1 of what is told
-pub tells-refusing : (P : Written → List ℕ → Type 0) (b : List ℕ)
-    → ((w : Written) (after : List ℕ) → P w after → Refusing (Writing.told w) × Leaves (Writing.told w) b after)
+pub tells-refusing : (P : Result ℕ Refusal → List ℕ → Type 0) (b : List ℕ)
+    → ((w : Result ℕ Refusal) (after : List ℕ) → P w after → Refusing (Writing.told w) × Leaves (Writing.told w) b after)
     → (r : KnxWritten) (after : List ℕ) → Tells P r after → Refusing (told r) × Leaves (told r) b after
 tells-refusing P b law r after x = subst (λ (t : Told). Refusing t × Leaves t b after) (sym x.tells) (law x.answer after x.keeps)

@@ -1,5 +1,5 @@
 -- The border's calls on the table: one law for the five of them, no second answer, and a refusal changes nothing. Assumes nothing.
-use Rattle.std.specs.Prelude.{ℕ, ◌<◌, ◌≤◌, ◌≡◌, refl, Bool, cond, List, [], ◌∷◌, length, get_or, drop, eqb}
+use Rattle.std.specs.Prelude.{ℕ, ◌<◌, ◌≤◌, ◌≡◌, refl, Bool, cond, List, [], ◌∷◌, length, get_or, drop, eqb, Result, Ok, Err}
 use Rattle.std.proofs.Common.{arith, sym, ap, subst, ◌∙◌, le-ltb, ne_eqb}
 use Rattle.wire.specs.Refusals.{number_of}
 use Rattle.wire.specs.Told.{Told, refused, nowhere}
@@ -7,7 +7,6 @@ use Rattle.wire.specs.declared.refusals.Fault.{Fault}
 use Rattle.wire.specs.declared.refusals.Refusal.TheVariants.{BufferTooSmall}
 use Rattle.wire.specs.ToldLaws.{same, one_to_one, never_done}
 use Rattle.wire.specs.WritingLaws.{wrote}
-use Rattle.wire.specs.declared.refusals.Written.{Written}
 use Rattle.wire.specs.Refusing.{Zeros}
 use Rattle.wire.specs.Writing.{onto, leaves, room}
 use Rattle.tunnelling.specs.declared.form.Form.{Form}
@@ -30,6 +29,7 @@ use Rattle.knx.specs.Building.{WrittenPromise}
 use Rattle.knx.specs.BuildingLaws.{tells_one}
 use Rattle.knx.specs.declared.building.KnxWritten.{KnxWritten}
 use Rattle.knx.specs.declared.called.KnxCalled.{KnxCalled}
+use Rattle.wire.specs.declared.refusals.Refusal.{Refusal}
 
 -- an image that is too small
 pub small_call : (image : List ℕ) (c : Call) (r : KnxCalled) → length image < 40 → RefusedPromise (nowhere BufferTooSmall) r → CallPromise image c r image (out_of c)
@@ -59,9 +59,9 @@ packed_call image c t q out r after enough u p k tells =
 pub empty_is : (image : List ℕ) (r : KnxWritten) (after : List ℕ) → EmptyPromise image r after → r.number ≡ 0 → after ≡ empty_image (drop 40 image)
 empty_is image r after x z = go x.answer x.keeps x.tells
   where
-    go : (w : Written) → PackPromise (empty_of kind 8) image w after → WrittenPromise w r → after ≡ empty_image (drop 40 image)
-    go (Written.Bytes n) k t = (wrote (room 40 (length image) ∷ []) (packed (empty_of kind 8)) image n after k).bytes
-    go (Written.Refused e) k t = absurd (never_done e (sym (ap (λ (u : Told). u.number) t) ∙ z))
+    go : (w : Result ℕ Refusal) → PackPromise (empty_of kind 8) image w after → WrittenPromise w r → after ≡ empty_image (drop 40 image)
+    go (Ok n) k t = (wrote (room 40 (length image) ∷ []) (packed (empty_of kind 8)) image n after k).bytes
+    go (Err e) k t = absurd (never_done e (sym (ap (λ (u : Told). u.number) t) ∙ z))
 
 -- ---- no second answer: of the answer, the image and the output
 

@@ -1,5 +1,5 @@
 -- From cEMI to L_Data at the border: the checks of `CEMIFrame::parse` and `as_ldata`, and every number that they let through; over how L counts. Assumes nothing.
-use Rattle.std.specs.Prelude.{ℕ, ◌+◌, ◌%◌, ◌≡◌, Bool, cond, List, [], ◌∷◌, ◌++◌, get_or, take}
+use Rattle.std.specs.Prelude.{ℕ, ◌+◌, ◌%◌, ◌≡◌, Bool, cond, List, [], ◌∷◌, ◌++◌, get_or, take, Result, Ok}
 use Rattle.wire.specs.Told.{Told, done, Check, judged, refused}
 use Rattle.wire.specs.Places.{located}
 use Rattle.wire.specs.Layout.{get}
@@ -12,8 +12,6 @@ use Rattle.ldata.specs.LData.{tpci_in, length_in, data_byte, values_in, byte_che
 use Rattle.ldata.specs.LData as LData
 use Rattle.ldata.specs.declared.count.Counting.{Counting}
 use Rattle.ldata.specs.declared.ldata.LDataFields.{LDataFields}
-use Rattle.ldata.specs.declared.ldata.LDataAnswer.{LDataAnswer}
-use Rattle.ldata.specs.declared.ldata.LDataAnswer.TheVariants.{Frame}
 use Rattle.cemi.specs.Cemi.{code_in, info_length, service_info, ldata_checks, ldata_offsets, rest_offsets}
 use Rattle.cemi.specs.Cemi as Cemi
 use Rattle.cemi.specs.declared.CEMIFrame.{CEMIFrame}
@@ -100,7 +98,7 @@ abbrev pub CemiLDataInPromise : Counting → List ℕ → KnxLData → Type 0
 CemiLDataInPromise c s r = told r ≡ found_in (count_by c) s (judged (checks_in (count_by c) s) (numbers_in (count_by c) s))
 
 -- what parse and as_ldata together answer
-abbrev pub AnswerInPromise : Counting → List ℕ → LDataAnswer → Type 0
+abbrev pub AnswerInPromise : Counting → List ℕ → Result LDataFields Fault → Type 0
 AnswerInPromise c s a = LData.told a ≡ found_in (count_by c) s (judged (checks_in (count_by c) s) (done (values_in (count_by c) (service_info s))))
 
 -- twelve zeros beside the number
@@ -109,7 +107,7 @@ RefusedPromise e r = told r ≡ refused 12 e
 
 -- what is read once the L_Data is known to be accepted
 abbrev pub Accepted : Counting → List ℕ → LDataFields → Type 0
-Accepted c s f = LData.ParseInPromise c (service_info s) (Frame f)
+Accepted c s f = LData.ParseInPromise c (service_info s) (Ok f)
 
 abbrev pub ReadPromise : Counting → List ℕ → KnxLData → Type 0
 ReadPromise c s r = told r ≡ numbers_in (count_by c) s

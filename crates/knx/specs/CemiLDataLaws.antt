@@ -1,5 +1,5 @@
 -- From cEMI to L_Data at the border: how it goes on from the answers below, that the numbers read from the bytes agree with what the records below tell, and no second answer. Assumes nothing.
-use Rattle.std.specs.Prelude.{ℕ, ◌+◌, ◌≤◌, ◌/◌, ◌%◌, ◌≡◌, refl, Bool, true, false, not, cond, List, [], ◌∷◌, ◌++◌, length, get_or, take, ltb}
+use Rattle.std.specs.Prelude.{ℕ, ◌+◌, ◌≤◌, ◌/◌, ◌%◌, ◌≡◌, refl, Bool, true, false, not, cond, List, [], ◌∷◌, ◌++◌, length, get_or, take, ltb, Result, Ok, Err}
 use Rattle.std.proofs.Common.{arith, sym, ap, ◌∙◌}
 use Rattle.wire.specs.Clash.{never}
 use Rattle.wire.specs.Told.{Told, done, viewed, Check, ◌⇒◌, verdict}
@@ -8,7 +8,6 @@ use Rattle.wire.specs.PlaceLaws.{located_pass, located_fall, was_fallen}
 use Rattle.wire.specs.Parts.{part_of}
 use Rattle.wire.specs.declared.parts.View.{View}
 use Rattle.wire.specs.declared.refusals.Fault.{Fault}
-use Rattle.wire.specs.declared.refusals.Verdict.TheVariants.{Accept, Refuse}
 use Rattle.constants.specs.MessageCodes.{code_of, message_of}
 use Rattle.constants.specs.MessageCodeLaws as MessageCodeLaws
 use Rattle.constants.specs.declared.message_codes.CEMIMessageCode.{CEMIMessageCode}
@@ -24,12 +23,10 @@ use Rattle.ldata.specs.LData as LData
 use Rattle.ldata.specs.LDataLaws as LDataLaws
 use Rattle.ldata.specs.declared.count.Counting.{Counting}
 use Rattle.ldata.specs.declared.ldata.LDataFields.{LDataFields}
-use Rattle.ldata.specs.declared.ldata.LDataAnswer.{LDataAnswer}
 use Rattle.cemi.specs.Cemi.{code_in, info_length, service_info, ldata_checks}
 use Rattle.cemi.specs.Cemi as Cemi
 use Rattle.cemi.specs.CemiLaws as CemiLaws
 use Rattle.cemi.specs.declared.CEMIFrame.{CEMIFrame}
-use Rattle.cemi.specs.declared.CEMIAnswer.TheVariants as CEMIAnswer
 use Rattle.knx.specs.CemiLData.{told, frame_in, checks_in, offsets, data_in, apci_numbers, named_in, six_bit_in, service_in, ServiceInPromise, numbers_in, CemiLDataInPromise, AnswerInPromise, RefusedPromise, Accepted, ReadPromise}
 use Rattle.knx.specs.declared.cemi_ldata.Service.{Service}
 use Rattle.knx.specs.declared.cemi_ldata.KnxLData.{KnxLData}
@@ -37,19 +34,19 @@ use Rattle.knx.specs.declared.cemi_ldata.KnxLData.{KnxLData}
 -- ---- on from the two answers below
 
 -- the record that the parse made is the one of the bytes
-code_is : (s : List ℕ) (f : CEMIFrame) → Cemi.ParsePromise s (CEMIAnswer.Frame f) → code_of f.message_code ≡ code_in s
-code_is s f p = ap (λ (t : Told). get_or t.values 0 0) (let_through (Cemi.checks s) (done (code_in s ∷ [])) (Cemi.told (CEMIAnswer.Frame f)) refl p)
+code_is : (s : List ℕ) (f : CEMIFrame) → Cemi.ParsePromise s (Ok f) → code_of f.message_code ≡ code_in s
+code_is s f p = ap (λ (t : Told). get_or t.values 0 0) (let_through (Cemi.checks s) (done (code_in s ∷ [])) (Cemi.told (Ok f)) refl p)
 
-frame_is : (s : List ℕ) (f : CEMIFrame) → Cemi.ParsePromise s (CEMIAnswer.Frame f) → f ≡ frame_in s
+frame_is : (s : List ℕ) (f : CEMIFrame) → Cemi.ParsePromise s (Ok f) → f ≡ frame_in s
 frame_is s f p =
     ap (λ (m : CEMIMessageCode). record { message_code = m }) (sym (MessageCodeLaws.back f.message_code) ∙ ap message_of (code_is s f p))
 
 -- where all checks hold, so do the last
-last_hold : (cs ds : List Check) → verdict (cs ++ ds) ≡ Accept → verdict ds ≡ Accept
+last_hold : (cs ds : List Check) → verdict (cs ++ ds) ≡ Ok tt → verdict ds ≡ Ok tt
 last_hold [] ds q = q
 last_hold (broken ⇒ e ∷ cs) ds q = go broken q (last_hold cs ds)
   where
-    go : (b : Bool) → cond b (Refuse e) (verdict (cs ++ ds)) ≡ Accept → (verdict (cs ++ ds) ≡ Accept → verdict ds ≡ Accept) → verdict ds ≡ Accept
+    go : (b : Bool) → cond b (Err e) (verdict (cs ++ ds)) ≡ Ok tt → (verdict (cs ++ ds) ≡ Ok tt → verdict ds ≡ Ok tt) → verdict ds ≡ Ok tt
     go true p later = never cc
     go false p later = later p
 
@@ -64,26 +61,26 @@ module _ (c : Counting) (s : List ℕ) where
   t = done (values_in C (service_info s))
 
   -- a frame of a cEMI that was parsed, and one that was not
-  pub as_ldata : (f : CEMIFrame) → Cemi.ParsePromise s (CEMIAnswer.Frame f) → (a : LDataAnswer) → Cemi.AsLDataInPromise c f s a → AnswerInPromise c s a
+  pub as_ldata : (f : CEMIFrame) → Cemi.ParsePromise s (Ok f) → (a : Result LDataFields Fault) → Cemi.AsLDataInPromise c f s a → AnswerInPromise c s a
   as_ldata f parsed a q = q ∙ ap (λ (g : CEMIFrame). Cemi.as_ldata_where C g s) (frame_is s f parsed)
 
-  pub no_cemi : (e : Fault) → Cemi.ParsePromise s (CEMIAnswer.Refused e) → AnswerInPromise c s (LDataAnswer.Refused e)
+  pub no_cemi : (e : Fault) → Cemi.ParsePromise s (Err e) → AnswerInPromise c s (Err e)
   no_cemi e q = CemiLaws.no_cemi C (frame_in s) s e (CemiLaws.fell s e q)
 
-  all_hold : (g : LDataFields) → AnswerInPromise c s (LDataAnswer.Frame g) → verdict cs ≡ Accept
-  all_hold g q = was_accepted cs t (LData.told (LDataAnswer.Frame g)) refl q
+  all_hold : (g : LDataFields) → AnswerInPromise c s (Ok g) → verdict cs ≡ Ok tt
+  all_hold g q = was_accepted cs t (LData.told (Ok g)) refl q
 
   -- the L_Data on the rest is accepted
-  pub accepted : (g : LDataFields) → AnswerInPromise c s (LDataAnswer.Frame g) → Accepted c s g
+  pub accepted : (g : LDataFields) → AnswerInPromise c s (Ok g) → Accepted c s g
   accepted g q =
-      let_through cs t (LData.told (LDataAnswer.Frame g)) refl q
+      let_through cs t (LData.told (Ok g)) refl q
       ∙ sym (located_pass (byte_checks C (service_info s)) (LData.offsets (length (service_info s))) t (CemiLaws.rest_each C s) refl
       (last_hold (Cemi.checks s ++ ldata_checks (frame_in s) s) (byte_checks C (service_info s)) (all_hold g q)))
 
-  pub all_read : (g : LDataFields) (r : KnxLData) → AnswerInPromise c s (LDataAnswer.Frame g) → ReadPromise c s r → CemiLDataInPromise c s r
+  pub all_read : (g : LDataFields) (r : KnxLData) → AnswerInPromise c s (Ok g) → ReadPromise c s r → CemiLDataInPromise c s r
   all_read g r q p = p ∙ sym (located_pass cs (offsets s) (numbers_in C s) (CemiLaws.all_each C (frame_in s) s) refl (all_hold g q))
 
-  pub no_ldata : (e : Fault) (r : KnxLData) → AnswerInPromise c s (LDataAnswer.Refused e) → RefusedPromise e r → CemiLDataInPromise c s r
+  pub no_ldata : (e : Fault) (r : KnxLData) → AnswerInPromise c s (Err e) → RefusedPromise e r → CemiLDataInPromise c s r
   no_ldata e r q p = p ∙ sym (located_fall cs (offsets s) (numbers_in C s) e (was_fallen cs (offsets s) t 9 e refl q))
 
 -- ---- the numbers of the bytes are those of the record
@@ -131,18 +128,18 @@ reads c s f p n rest e r first second x y v four =
     rw (at 0, at 1, at 2, at 3, at 4, of 0, of 1, of 2, of 3, x, y, e, r)
 
 -- where `LDataFields::data_in` says that the data stands
-view_is : (c : Counting) (rest : List ℕ) (f : LDataFields) → LData.ParseInPromise c rest (LDataAnswer.Frame f) → (v : View) → LData.DataInPromise c f rest v
+view_is : (c : Counting) (rest : List ℕ) (f : LDataFields) → LData.ParseInPromise c rest (Ok f) → (v : Result View Fault) → LData.DataInPromise c f rest v
     → (v.start ≡ start_of (data_in rest)) × (v.end ≡ (count_by c).end_of (get_or rest 6 0))
 view_is c rest f parsed v p =
     let cs = byte_checks (count_by c) rest in
     let at = viewed (start_of (data_in rest)) ((count_by c).end_of (get_or rest 6 0)) in
     let e : LData.data_by01 (count_by c) f rest ≡ at =
-    LDataLaws.data_read (count_by c) rest f parsed ∙ let_pass cs at (was_accepted cs (done (values_in (count_by c) rest)) (LData.told (LDataAnswer.Frame f)) refl parsed) in
+    LDataLaws.data_read (count_by c) rest f parsed ∙ let_pass cs at (was_accepted cs (done (values_in (count_by c) rest)) (LData.told (Ok f)) refl parsed) in
     (ap (λ (t : Told). t.start) p ∙ ap (λ (t : Told). t.start) e, ap (λ (t : Told). t.end) p ∙ ap (λ (t : Told). t.end) e)
 
 -- the numbers that are told are those of the records that `parse`, `as_ldata_in` and `data_in` answer
-pub ldata_as : (c : Counting) (s : List ℕ) (r : KnxLData) (f : CEMIFrame) (g : LDataFields) (v : View)
-    → CemiLDataInPromise c s r → Cemi.ParsePromise s (CEMIAnswer.Frame f) → Cemi.AsLDataInPromise c f s (LDataAnswer.Frame g) → LData.DataInPromise c g (service_info s) v
+pub ldata_as : (c : Counting) (s : List ℕ) (r : KnxLData) (f : CEMIFrame) (g : LDataFields) (v : Result View Fault)
+    → CemiLDataInPromise c s r → Cemi.ParsePromise s (Ok f) → Cemi.AsLDataInPromise c f s (Ok g) → LData.DataInPromise c g (service_info s) v
     → told r ≡ record {
       number = 0;
       values = code_of f.message_code ∷ take 7 (values g) ++ apci_numbers (is_data g.tpci) g.apci ++ six_bit_in (is_data g.tpci) (get_or (service_info s) 8 0) ∷ [];
@@ -153,8 +150,8 @@ pub ldata_as : (c : Counting) (s : List ℕ) (r : KnxLData) (f : CEMIFrame) (g :
 ldata_as c s r f g v p parsed read view =
     let C : Count = count_by c in
     let rest : List ℕ = service_info s in
-    let answered : AnswerInPromise c s (LDataAnswer.Frame g) = as_ldata c s f parsed (LDataAnswer.Frame g) read in
-    let on-rest : LData.ParseInPromise c rest (LDataAnswer.Frame g) = accepted c s g answered in
+    let answered : AnswerInPromise c s (Ok g) = as_ldata c s f parsed (Ok g) read in
+    let on-rest : LData.ParseInPromise c rest (Ok g) = accepted c s g answered in
     let at = view_is c rest g on-rest v view in
     let d : Bool = data_in rest in
     let there : Apci = apci_in C d (get_or rest 7 0) (get_or rest 8 0) in

@@ -1,9 +1,9 @@
 -- What the border's readers of an open channel's services promise, over the rules of `connect`: connection state and disconnect responses, and a disconnect request that came in. Assumes nothing.
-use Rattle.std.specs.Prelude.{ℕ, ◌≡◌, List, [], ◌∷◌}
+use Rattle.std.specs.Prelude.{ℕ, ◌≡◌, List, [], ◌∷◌, Result}
 use Rattle.wire.specs.Told.{Told, refused}
 use Rattle.wire.specs.declared.refusals.Fault.{Fault}
 use Rattle.connect.specs.Channel as Channel
-use Rattle.connect.specs.declared.channel.DisconnectRequestAnswer.{DisconnectRequestAnswer}
+use Rattle.connect.specs.declared.channel.DisconnectRequest.{DisconnectRequest}
 use Rattle.knx.specs.declared.channel.KnxStatus.{KnxStatus}
 use Rattle.knx.specs.declared.channel.KnxDisconnectRequest.{KnxDisconnectRequest}
 
@@ -18,7 +18,7 @@ abbrev pub NoStatusPromise : Fault → KnxStatus → Type 0
 NoStatusPromise e r = told r ≡ refused 2 e
 
 -- the answer of `DisconnectRequest::parse` that has these numbers
-abbrev pub request_answer : KnxDisconnectRequest → DisconnectRequestAnswer
+abbrev pub request_answer : KnxDisconnectRequest → Result DisconnectRequest Fault
 request_answer r = record {
   number = r.number;
   request = record {

@@ -1,5 +1,5 @@
 -- What the border promises of additional information: the rules of the crates below, told in numbers. Assumes nothing.
-use Rattle.std.specs.Prelude.{ℕ, ◌≡◌, List, [], ◌∷◌, length}
+use Rattle.std.specs.Prelude.{ℕ, ◌≡◌, List, [], ◌∷◌, length, Result}
 use Rattle.wire.specs.Told.{Told, Check}
 use Rattle.wire.specs.Coding.{check}
 use Rattle.wire.specs.Writing.{Writes}
@@ -16,6 +16,7 @@ use Rattle.knx.specs.declared.building.KnxWritten.{KnxWritten}
 use Rattle.knx.specs.declared.info.KnxPart.{KnxPart}
 use Rattle.knx.specs.declared.info.KnxAdditionalInfo.{KnxAdditionalInfo}
 use Rattle.knx.specs.declared.info.KnxCount.{KnxCount}
+use Rattle.wire.specs.declared.refusals.Fault.{Fault}
 
 -- where the area stands in a cEMI frame
 abbrev pub told_part : KnxPart → Told
@@ -53,7 +54,7 @@ BuildPromise code area rest b r after = Tells (Writes (build_checks code area (l
 
 -- ---- the code's parts
 
-abbrev pub PartPromise : View → KnxPart → Type 0
+abbrev pub PartPromise : Result View Fault → KnxPart → Type 0
 PartPromise v r = told_part r ≡ Parts.told v
 
 abbrev pub RecordPromise : AdditionalInfoAnswer → KnxAdditionalInfo → Type 0

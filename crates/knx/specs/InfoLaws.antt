@@ -1,5 +1,5 @@
 -- The border's additional information: how its numbers follow from the answers below, and no second answer. Assumes nothing.
-use Rattle.std.specs.Prelude.{ℕ, ◌+◌, ◌≡◌, refl, List, [], ◌∷◌, ◌++◌, length, get_or}
+use Rattle.std.specs.Prelude.{ℕ, ◌+◌, ◌≡◌, refl, List, [], ◌∷◌, ◌++◌, length, get_or, Result, Ok, Err}
 use Rattle.std.proofs.Common.{sym, subst, ◌∙◌}
 use Rattle.wire.specs.Told.{Told, done, viewed, refused, Check}
 use Rattle.wire.specs.ToldLaws.{was_accepted, was_refused, same, one_to_one}
@@ -9,27 +9,24 @@ use Rattle.wire.specs.Coding as Coding
 use Rattle.wire.specs.Writing.{Writes}
 use Rattle.wire.specs.WritingLaws as WritingLaws
 use Rattle.wire.specs.declared.refusals.Fault.{Fault}
-use Rattle.wire.specs.declared.refusals.Written.{Written}
-use Rattle.wire.specs.declared.refusals.Written.TheVariants.{Refused}
 use Rattle.constants.specs.MessageCodes.{message_codes, code_of}
 use Rattle.constants.specs.MessageCodes as MessageCodes
 use Rattle.constants.specs.declared.message_codes.CEMIMessageCode.{CEMIMessageCode}
-use Rattle.constants.specs.declared.message_codes.CEMIMessageCodeAnswer.TheVariants as CEMIMessageCodeAnswer
 use Rattle.additional_info.specs.InfoType.{type_of}
 use Rattle.additional_info.specs.AppendingLaws as AppendingLaws
 use Rattle.additional_info.specs.Appending as Appending
 use Rattle.cemi.specs.Cemi as Cemi
 use Rattle.cemi.specs.CemiLaws as CemiLaws
-use Rattle.cemi.specs.declared.CEMIAnswer.TheVariants as CEMIAnswer
 use Rattle.knx.specs.BuildingLaws.{tells_one}
 use Rattle.knx.specs.Info.{told_part, AreaPromise, told, FirstPromise, NthPromise, told_count, CountPromise, AppendPromise, build_checks, BuildPromise}
 use Rattle.knx.specs.declared.building.KnxWritten.{KnxWritten}
 use Rattle.knx.specs.declared.info.KnxPart.{KnxPart}
 use Rattle.knx.specs.declared.info.KnxAdditionalInfo.{KnxAdditionalInfo}
 use Rattle.knx.specs.declared.info.KnxCount.{KnxCount}
+use Rattle.wire.specs.declared.refusals.Refusal.{Refusal}
 
 -- a frame that does not parse has no area
-pub no_area : (s : List ℕ) (e : Fault) (t : Told) → Cemi.ParsePromise s (CEMIAnswer.Refused e) → t ≡ refused 0 e → t ≡ Cemi.info_where s
+pub no_area : (s : List ℕ) (e : Fault) (t : Told) → Cemi.ParsePromise s (Err e) → t ≡ refused 0 e → t ≡ Cemi.info_where s
 no_area s e t p q =
     q
     ∙ sym (located_fall (Cemi.checks s ++ Cemi.info_check s ∷ []) (Cemi.offsets s ++ Cemi.info_offset ∷ []) (viewed 2 (2 + Cemi.info_length s)) e
@@ -37,7 +34,7 @@ no_area s e t p q =
 
 -- a message code of a number: the frame is built, or refused before it is looked at
 module _ (code : ℕ) (area rest b : List ℕ) where
-  pub code_known : (m : CEMIMessageCode) (w : Written) (after : List ℕ) → MessageCodes.FromPromise code (CEMIMessageCodeAnswer.Code m)
+  pub code_known : (m : CEMIMessageCode) (w : Result ℕ Refusal) (after : List ℕ) → MessageCodes.FromPromise code (Ok m)
       → Cemi.BuildPromise (record { message_code = m }) area rest b w after → Writes (build_checks code area (length rest) (length b)) (Cemi.layout code area rest) b w after
   code_known m w after p built =
       let known = was_accepted (check message_codes code ∷ []) (done (code ∷ [])) (done (code_of m ∷ [])) refl p in
@@ -45,7 +42,7 @@ module _ (code : ℕ) (area rest b : List ℕ) where
       WritingLaws.writes_behind (check message_codes code ∷ []) (Cemi.build_checks area (length rest) (length b)) (Cemi.layout code area rest) b w after known
       (subst (λ (c : ℕ). Writes (Cemi.build_checks area (length rest) (length b)) (Cemi.layout c area rest) b w after) (sym same_code) built)
 
-  pub code_unknown : (e : Fault) → MessageCodes.FromPromise code (CEMIMessageCodeAnswer.Refused e) → Writes (build_checks code area (length rest) (length b)) (Cemi.layout code area rest) b (Refused e.why) b
+  pub code_unknown : (e : Fault) → MessageCodes.FromPromise code (Err e) → Writes (build_checks code area (length rest) (length b)) (Cemi.layout code area rest) b (Err e.why) b
   code_unknown e p =
       WritingLaws.refuses-before (check message_codes code ∷ []) (Cemi.build_checks area (length rest) (length b)) (Cemi.layout code area rest) b e.why
       (was_refused (check message_codes code ∷ []) (done (code ∷ [])) 1 e refl p)

@@ -1,17 +1,18 @@
 -- What the border's readers promise, over the rules of the crates below: a frame, an Hpai, a connect response. Assumes nothing.
-use Rattle.std.specs.Prelude.{ℕ, ◌≡◌, cond, List, [], ◌∷◌, length, eqb}
+use Rattle.std.specs.Prelude.{ℕ, ◌≡◌, cond, List, [], ◌∷◌, length, eqb, Result}
 use Rattle.wire.specs.Told.{Told, judged}
 use Rattle.wire.specs.Places.{located}
 use Rattle.wire.specs.Layout.{get}
 use Rattle.header.specs.Header.{fields, service_in, total_in}
 use Rattle.frame.specs.Frame as Frame
 use Rattle.hpai.specs.Hpai as Hpai
-use Rattle.hpai.specs.declared.HpaiAnswer.{HpaiAnswer}
+use Rattle.hpai.specs.declared.Hpai.{Hpai}
 use Rattle.connect.specs.Response as ConnectResponse
-use Rattle.connect.specs.declared.response.ConnectResponseAnswer.{ConnectResponseAnswer}
+use Rattle.connect.specs.declared.response.ConnectResponse.{ConnectResponse}
 use Rattle.knx.specs.declared.reading.KnxFrame.{KnxFrame}
 use Rattle.knx.specs.declared.reading.KnxHpai.{KnxHpai}
 use Rattle.knx.specs.declared.reading.KnxConnectResponse.{KnxConnectResponse}
+use Rattle.wire.specs.declared.refusals.Fault.{Fault}
 
 abbrev pub told_frame : KnxFrame → Told
 told_frame r = record { number = r.number; values = r.service ∷ r.total ∷ []; start = r.start; end = r.end; offset = r.offset }
@@ -35,7 +36,7 @@ abbrev pub FramePromise : List ℕ → KnxFrame → Type 0
 FramePromise s r = told_frame r ≡ frame_where s
 
 -- the answer of `Hpai::parse` that has these numbers
-abbrev pub hpai_answer : KnxHpai → HpaiAnswer
+abbrev pub hpai_answer : KnxHpai → Result Hpai Fault
 hpai_answer r = record {
   number = r.number;
   hpai = record { structure_length = r.structure_length; host_protocol = r.host_protocol; ip_address = r.address; port = r.port };
@@ -46,7 +47,7 @@ abbrev pub HpaiPromise : List ℕ → KnxHpai → Type 0
 HpaiPromise s r = Hpai.ParsePromise s (hpai_answer r)
 
 -- the answer of `ConnectResponse::parse` that has these numbers
-abbrev pub response_answer : KnxConnectResponse → ConnectResponseAnswer
+abbrev pub response_answer : KnxConnectResponse → Result ConnectResponse Fault
 response_answer r = record {
   number = r.number;
   response = record {

@@ -9,7 +9,6 @@ use hpai::Hpai;
 use ldata::{Counting, LDataBuilder};
 use pci::Tpci;
 use tunnelling::{ConnectionHeader, Form, TunnelingAck, TunnelingRequest};
-use wire::Written;
 
 // How many bytes were written, and a number of 01. The offset is 0: a builder reads no datagram.
 #[repr(C)]
@@ -176,16 +175,16 @@ fn ldata_build_in(
 }
 
 // What a builder answered, as numbers.
-pub(crate) fn written(answer: Written) -> KnxWritten
+pub(crate) fn written(answer: Result<usize, Refusal>) -> KnxWritten
     ensures { WrittenPromise answer result }
 {
     match answer {
-        Written::Bytes(count) => KnxWritten {
+        Ok(count) => KnxWritten {
             count,
             offset: 0,
             number: 0,
         },
-        Written::Refused(why) => KnxWritten {
+        Err(why) => KnxWritten {
             count: 0,
             offset: 0,
             number: why.number(),

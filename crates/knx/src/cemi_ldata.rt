@@ -4,8 +4,8 @@ ghost use Rattle.pci.specs.Application.{code_of};
 ghost use Rattle.ldata.specs.Count.{count_by};
 ghost use Rattle.knx.specs.CemiLData.{CemiLDataPromise, CemiLDataStandardPromise, CemiLDataInPromise, AnswerInPromise, RefusedPromise, Accepted, ReadPromise, ServiceInPromise, named_in};
 
-use cemi::{CEMIAnswer, CEMIFrame};
-use ldata::{Counting, LDataAnswer, LDataFields};
+use cemi::CEMIFrame;
+use ldata::{Counting, LDataFields};
 use wire::Fault;
 
 // A number of 01 and, beside 0, the fields of cEMI and L_Data, and where the data stands in the cEMI bytes; else the offset of the field that decided.
@@ -46,17 +46,17 @@ fn ldata_in(counting: Counting, data: &[u8]) -> KnxLData
     ensures { CemiLDataInPromise counting «data».now result }
 {
     match answer_in(counting, data) {
-        LDataAnswer::Frame(fields) => read(counting, data, fields),
-        LDataAnswer::Refused(fault) => refused(fault),
+        Ok(fields) => read(counting, data, fields),
+        Err(fault) => refused(fault),
     }
 }
 
-fn answer_in(counting: Counting, data: &[u8]) -> LDataAnswer
+fn answer_in(counting: Counting, data: &[u8]) -> Result<LDataFields, Fault>
     ensures { AnswerInPromise counting «data».now result }
 {
     match CEMIFrame::parse(data) {
-        CEMIAnswer::Frame(frame) => frame.as_ldata_in(counting, data),
-        CEMIAnswer::Refused(fault) => LDataAnswer::Refused(fault),
+        Ok(frame) => frame.as_ldata_in(counting, data),
+        Err(fault) => Err(fault),
     }
 }
 

@@ -1,7 +1,7 @@
 // While a channel is open: what a gateway answers and asks. Each is read from the body of its frame.
 ghost use Rattle.knx.specs.Channel.{StatusPromise, NoStatusPromise, DisconnectRequestPromise};
 
-use connect::{ConnectionStateAnswer, ConnectionStateResponse, DisconnectRequest};
+use connect::{ConnectionStateResponse, DisconnectRequest};
 use wire::Fault;
 
 // A number of 01 and, beside 0, a channel and its status; else the offset of the field that decided.
@@ -62,13 +62,13 @@ fn status_in(body: &[u8]) -> KnxStatus
     ensures { StatusPromise body.now result }
 {
     match ConnectionStateResponse::parse(body) {
-        ConnectionStateAnswer::Response(response) => KnxStatus {
+        Ok(response) => KnxStatus {
             offset: 0,
             channel: response.channel_id,
             status: response.status,
             number: 0,
         },
-        ConnectionStateAnswer::Refused(fault) => no_status(fault),
+        Err(fault) => no_status(fault),
     }
 }
 

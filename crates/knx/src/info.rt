@@ -6,12 +6,10 @@ ghost use Rattle.knx.specs.Info as KnxInfo;
 
 use crate::building;
 use crate::building::KnxWritten;
-use additional_info::{
-    AdditionalInfo, AdditionalInfoAnswer, AdditionalInfoType, CountAnswer, Timestamp,
-};
-use cemi::{CEMIAnswer, CEMIFrame};
-use constants::{CEMIMessageCode, CEMIMessageCodeAnswer};
-use wire::{View, Written};
+use additional_info::{AdditionalInfo, AdditionalInfoAnswer, AdditionalInfoType};
+use cemi::CEMIFrame;
+use constants::CEMIMessageCode;
+use wire::View;
 
 // A number of 01 and, beside 0, a part of the input; else the offset of the field that decided.
 #[repr(C)]
@@ -51,8 +49,8 @@ pub fn knx_cemi_additional_info(data: &[u8]) -> KnxPart
     ensures { KnxInfo.AreaPromise «data».now result }
 {
     match CEMIFrame::parse(data) {
-        CEMIAnswer::Frame(frame) => part(frame.additional_info(data)),
-        CEMIAnswer::Refused(fault) => part(View::refused(fault)),
+        Ok(frame) => part(frame.additional_info(data)),
+        Err(fault) => part(View::refused(fault)),
     }
 }
 
@@ -72,12 +70,12 @@ pub fn knx_additional_info_count(area: &[u8]) -> KnxCount
     ensures { KnxInfo.CountPromise area.now result }
 {
     match additional_info::count(area) {
-        CountAnswer::Count(count) => KnxCount {
+        Ok(count) => KnxCount {
             offset: 0,
             count,
             number: 0,
         },
-        CountAnswer::Refused(fault) => {
+        Err(fault) => {
             let why = fault.why;
             KnxCount {
                 offset: fault.at,
@@ -109,13 +107,13 @@ pub fn knx_cemi_build(
     ensures { KnxInfo.BuildPromise message_code additional_info.now service_info.now out.old result out.new }
 {
     match CEMIMessageCode::from_u8(message_code) {
-        CEMIMessageCodeAnswer::Code(message_code) => {
+        Ok(message_code) => {
             let frame = CEMIFrame { message_code };
             building::written(frame.build(additional_info, service_info, out))
         }
-        CEMIMessageCodeAnswer::Refused(fault) => {
+        Err(fault) => {
             let why = fault.why;
-            building::written(Written::Refused(why))
+            building::written(Err(why))
         }
     }
 }
@@ -190,20 +188,20 @@ fn named(t: AdditionalInfoType) -> u8
     }
 }
 
-fn valued(timestamp: Timestamp) -> u8
+fn valued(timestamp: Option<u32>) -> u8
     ensures { result ≡ valued_of timestamp }
 {
     match timestamp {
-        Timestamp::Value(_) => 1,
-        Timestamp::None => 0,
+        Some(_) => 1,
+        None => 0,
     }
 }
 
-fn value(timestamp: Timestamp) -> u32
+fn value(timestamp: Option<u32>) -> u32
     ensures { result ≡ value_of timestamp }
 {
     match timestamp {
-        Timestamp::Value(n) => n,
-        Timestamp::None => 0,
+        Some(n) => n,
+        None => 0,
     }
 }

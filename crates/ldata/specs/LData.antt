@@ -1,5 +1,5 @@
 -- 01, "L_Data": control 1, control 2, source, destination, length L, TPCI, and for data packets APCI; over how L counts. Assumes nothing.
-use Rattle.std.specs.Prelude.{ℕ, ◌≡◌, Bool, not, cond, List, [], ◌∷◌, ◌++◌, length, get_or, take, ltb}
+use Rattle.std.specs.Prelude.{ℕ, ◌≡◌, Bool, not, cond, List, [], ◌∷◌, ◌++◌, length, get_or, take, ltb, Result, Ok, Err, Option, Some, None}
 use Rattle.wire.specs.Told.{Told, done, viewed, refused, Check, ◌⇒◌, judged}
 use Rattle.wire.specs.Places.{located}
 use Rattle.wire.specs.Layout.{Field, byte, word, get}
@@ -16,10 +16,9 @@ use Rattle.pci.specs.declared.application.Apci.{Apci}
 use Rattle.ldata.specs.Count.{Count, start_of, crate_count, count_by}
 use Rattle.ldata.specs.declared.count.Counting.{Counting}
 use Rattle.ldata.specs.declared.ldata.LDataFields.{LDataFields}
-use Rattle.ldata.specs.declared.ldata.LDataAnswer.{LDataAnswer}
-use Rattle.ldata.specs.declared.ldata.LDataAnswer.TheVariants.{Frame, Refused}
-use Rattle.ldata.specs.declared.destination.GroupAddressAnswer.{GroupAddressAnswer}
-use Rattle.ldata.specs.declared.destination.IndividualAddressAnswer.{IndividualAddressAnswer}
+use Rattle.wire.specs.declared.refusals.Fault.{Fault}
+use Rattle.address.specs.declared.GroupAddress.{GroupAddress}
+use Rattle.address.specs.declared.IndividualAddress.{IndividualAddress}
 
 -- ---- the layout
 
@@ -78,9 +77,9 @@ length_offsets = 6 ∷ 6 ∷ []
 abbrev pub offsets : ℕ → List ℕ
 offsets n = n ∷ length_offsets
 
-abbrev pub told : LDataAnswer → Told
-told (Frame f) = done (values f)
-told (Refused e) = refused 9 e
+abbrev pub told : Result LDataFields Fault → Told
+told (Ok f) = done (values f)
+told (Err e) = refused 9 e
 
 abbrev pub byte_checks : Count → List ℕ → List Check
 byte_checks C s = checks C (length s) (data_byte (tpci_in (get fields 0 s))) (length_in (get fields 0 s))
@@ -104,10 +103,10 @@ data_where C f s = located (record_checks C f (length s)) (offsets (length s)) (
 
 -- ---- what the functions promise, with the crate's count
 
-abbrev pub ParsePromise : List ℕ → LDataAnswer → Type 0
+abbrev pub ParsePromise : List ℕ → Result LDataFields Fault → Type 0
 ParsePromise s r = told r ≡ parse_where crate_count s
 
-abbrev pub DataPromise : LDataFields → List ℕ → View → Type 0
+abbrev pub DataPromise : LDataFields → List ℕ → Result View Fault → Type 0
 DataPromise f s r = Parts.told r ≡ data_where crate_count f s
 
 abbrev pub DataPartPromise : LDataFields → List ℕ → List ℕ → Type 0
@@ -115,10 +114,10 @@ DataPartPromise f s r = r ≡ shown s (data_by01 crate_count f s)
 
 -- ---- the same in the count that they are given
 
-abbrev pub ParseInPromise : Counting → List ℕ → LDataAnswer → Type 0
+abbrev pub ParseInPromise : Counting → List ℕ → Result LDataFields Fault → Type 0
 ParseInPromise c s r = told r ≡ parse_where (count_by c) s
 
-abbrev pub DataInPromise : Counting → LDataFields → List ℕ → View → Type 0
+abbrev pub DataInPromise : Counting → LDataFields → List ℕ → Result View Fault → Type 0
 DataInPromise c f s r = Parts.told r ≡ data_where (count_by c) f s
 
 abbrev pub DataPartInPromise : Counting → LDataFields → List ℕ → List ℕ → Type 0
@@ -127,22 +126,22 @@ DataPartInPromise c f s r = r ≡ shown s (data_by01 (count_by c) f s)
 -- ---- whom it is for, and what it asks
 
 -- an address, or none
-abbrev pub told_group : GroupAddressAnswer → Told
-told_group (GroupAddressAnswer.Address a) = done (1 ∷ a.0 ∷ [])
-told_group GroupAddressAnswer.None = done (0 ∷ 0 ∷ [])
+abbrev pub told_group : Option GroupAddress → Told
+told_group (Some a) = done (1 ∷ a.0 ∷ [])
+told_group None = done (0 ∷ 0 ∷ [])
 
-abbrev pub told_individual : IndividualAddressAnswer → Told
-told_individual (IndividualAddressAnswer.Address a) = done (1 ∷ a.0 ∷ [])
-told_individual IndividualAddressAnswer.None = done (0 ∷ 0 ∷ [])
+abbrev pub told_individual : Option IndividualAddress → Told
+told_individual (Some a) = done (1 ∷ a.0 ∷ [])
+told_individual None = done (0 ∷ 0 ∷ [])
 
 abbrev pub address_if : Bool → ℕ → Told
 address_if b n = cond b (done (1 ∷ n ∷ [])) (done (0 ∷ 0 ∷ []))
 
 -- "control 2 bit 7 says which the destination is"
-abbrev pub DestinationGroupPromise : LDataFields → GroupAddressAnswer → Type 0
+abbrev pub DestinationGroupPromise : LDataFields → Option GroupAddress → Type 0
 DestinationGroupPromise f r = told_group r ≡ address_if (bit 128 f.ctrl2.raw) f.destination_raw
 
-abbrev pub DestinationIndividualPromise : LDataFields → IndividualAddressAnswer → Type 0
+abbrev pub DestinationIndividualPromise : LDataFields → Option IndividualAddress → Type 0
 DestinationIndividualPromise f r = told_individual r ≡ address_if (not (bit 128 f.ctrl2.raw)) f.destination_raw
 
 -- by its name: `Unknown` of the same code is another service, and a control packet asks none

@@ -1,5 +1,5 @@
 -- An L_Data frame: how its parse goes on from TPCI, what it is made of, and no second answer. Proved over how L counts. Assumes nothing.
-use Rattle.std.specs.Prelude.{ℕ, ◌+◌, ◌-◌, ◌≤◌, ◌≡◌, refl, Bool, true, false, not, cond, List, [], ◌∷◌, ◌++◌, length, get_or, take, drop, ltb}
+use Rattle.std.specs.Prelude.{ℕ, ◌+◌, ◌-◌, ◌≤◌, ◌≡◌, refl, Bool, true, false, not, cond, List, [], ◌∷◌, ◌++◌, length, get_or, take, drop, ltb, Result, Ok, Err, Option, Some, None}
 use Rattle.std.proofs.Common.{arith, sym, ap, ◌∙◌, append-nil, take-suc, take-add, ltb-false}
 use Rattle.wire.specs.Told.{Told, done, viewed, Check, ◌⇒◌, verdict, judged}
 use Rattle.wire.specs.ToldLaws.{let_pass, is_true, holds, was_accepted, let_through, same, one_to_one, answer_of, back_refused}
@@ -13,8 +13,6 @@ use Rattle.wire.specs.PartLaws as PartLaws
 use Rattle.wire.specs.declared.parts.View.{View}
 use Rattle.wire.specs.declared.refusals.Fault.{Fault}
 use Rattle.wire.specs.declared.refusals.Refusal.TheVariants.{BufferTooSmall, InvalidFrame}
-use Rattle.wire.specs.declared.refusals.Verdict.TheVariants.{Accept}
-use Rattle.wire.specs.declared.refusals.Standing.TheVariants as Standing
 use Rattle.pci.specs.Transport.{is_data}
 use Rattle.pci.specs.Transport as Transport
 use Rattle.pci.specs.Application.{is_unknown}
@@ -28,10 +26,8 @@ use Rattle.ldata.specs.CountLaws.{Lawful}
 use Rattle.ldata.specs.LData.{fields, data_byte, apci_in, values, values_in, end_check, length_check, checks, length_offsets, offsets, byte_checks, told, parse_where, data_by01, ParseInPromise, DataInPromise, told_group, told_individual, DestinationGroupPromise, DestinationIndividualPromise, IsServicePromise}
 use Rattle.ldata.specs.declared.count.Counting.{Counting}
 use Rattle.ldata.specs.declared.ldata.LDataFields.{LDataFields}
-use Rattle.ldata.specs.declared.ldata.LDataAnswer.{LDataAnswer}
-use Rattle.ldata.specs.declared.ldata.LDataAnswer.TheVariants.{Frame, Refused}
-use Rattle.ldata.specs.declared.destination.GroupAddressAnswer.{GroupAddressAnswer}
-use Rattle.ldata.specs.declared.destination.IndividualAddressAnswer.{IndividualAddressAnswer}
+use Rattle.address.specs.declared.GroupAddress.{GroupAddress}
+use Rattle.address.specs.declared.IndividualAddress.{IndividualAddress}
 
 -- an offset for each check, in either order
 pub one_each : (C : Count) (n : ℕ) (d : Bool) (l : ℕ) → length (offsets n) ≡ length (checks C n d l)
@@ -54,12 +50,12 @@ module _ (C : Count) (s : List ℕ) (d : Bool) (kind : d ≡ data_byte (get_or s
   over : standing (checks C (length s) d (get_or s 6 0)) os ≡ standing (byte_checks C s) os
   over = ap (λ (e : Bool). standing (checks C (length s) e (get_or s 6 0)) os) kind
 
-  pub stood : (f : LDataFields) → values f ≡ values_in C s → standing (checks C (length s) d (get_or s 6 0)) os ≡ Standing.Stands → told (Frame f) ≡ parse_where C s
+  pub stood : (f : LDataFields) → values f ≡ values_in C s → standing (checks C (length s) d (get_or s 6 0)) os ≡ (Ok tt) → told (Ok f) ≡ parse_where C s
   stood f read q =
       let each = one_each C (length s) (data_byte (get_or s 7 0)) (get_or s 6 0) in
       ap done read ∙ sym (located_pass (byte_checks C s) os (done (values_in C s)) each refl (stands-accepted (byte_checks C s) os (sym over ∙ q)))
 
-  pub fell : (e : Fault) → standing (checks C (length s) d (get_or s 6 0)) os ≡ Standing.Falls e → told (Refused e) ≡ parse_where C s
+  pub fell : (e : Fault) → standing (checks C (length s) d (get_or s 6 0)) os ≡ Err e → told (Err e) ≡ parse_where C s
   fell e q = sym (located_fall (byte_checks C s) os (done (values_in C s)) e (sym over ∙ q))
 
 -- the kind is the first of a TPCI's values
@@ -100,10 +96,10 @@ any_order C n d l =
     ∙ ap (and_then (standing small (n ∷ []))) (last_two C n d l)
     ∙ sym (stands_then small (end_check C n l ∷ length_check C d l ∷ []) (n ∷ []) length_offsets refl)
 
-pub accepts_either : (C : Count) (n : ℕ) (d : Bool) (l : ℕ) → verdict (end_first C n d l) ≡ Accept → verdict (checks C n d l) ≡ Accept
+pub accepts_either : (C : Count) (n : ℕ) (d : Bool) (l : ℕ) → verdict (end_first C n d l) ≡ Ok tt → verdict (checks C n d l) ≡ Ok tt
 accepts_either C n d l q = stands-accepted (checks C n d l) (offsets n) (any_order C n d l ∙ accepted-stands (end_first C n d l) (offsets n) q)
 
-pub accepted : (C : Count) (n : ℕ) (d : Bool) (l : ℕ) → verdict (checks C n d l) ≡ Accept → Stands C n d l
+pub accepted : (C : Count) (n : ℕ) (d : Bool) (l : ℕ) → verdict (checks C n d l) ≡ Ok tt → Stands C n d l
 accepted C n d l accepts =
     let small : Check = ltb n C.least ⇒ BufferTooSmall in
     let q = stands-accepted (end_first C n d l) (offsets n) (sym (any_order C n d l) ∙ accepted-stands (checks C n d l) (offsets n) accepts) in
@@ -117,10 +113,10 @@ accepted C n d l accepts =
 abbrev pub front_of : LDataFields → ℕ → List ℕ
 front_of f tpci = put fields (f.ctrl1.raw ∷ f.ctrl2.raw ∷ f.source.0 ∷ f.destination_raw ∷ f.npdu_length ∷ tpci ∷ [])
 
-module _ (C : Count) (s : List ℕ) (f : LDataFields) (parsed : told (Frame f) ≡ parse_where C s) where
+module _ (C : Count) (s : List ℕ) (f : LDataFields) (parsed : told (Ok f) ≡ parse_where C s) where
   -- the values of the record are those that stand in the bytes
   pub read : values f ≡ values_in C s
-  read = ap (λ (t : Told). t.values) (let_through (byte_checks C s) (done (values_in C s)) (told (Frame f)) refl parsed)
+  read = ap (λ (t : Told). t.values) (let_through (byte_checks C s) (done (values_in C s)) (told (Ok f)) refl parsed)
 
   -- its APCI is the one that stands there
   pub apci_read : f.apci ≡ apci_in C (data_byte (get_or s 7 0)) (get_or s 7 0) (get_or s 8 0)
@@ -138,7 +134,7 @@ module _ (C : Count) (s : List ℕ) (f : LDataFields) (parsed : told (Frame f) �
       ap (λ (d : Bool). of d f.npdu_length) kind_read ∙ ap (of (data_byte (get_or s 7 0))) (ap (λ (vs : List ℕ). get_or vs 4 0) read)
 
   pub stands : Stands C (length s) (data_byte (get_or s 7 0)) (get_or s 6 0)
-  stands = accepted C (length s) (data_byte (get_or s 7 0)) (get_or s 6 0) (was_accepted (byte_checks C s) (done (values_in C s)) (told (Frame f)) refl parsed)
+  stands = accepted C (length s) (data_byte (get_or s 7 0)) (get_or s 6 0) (was_accepted (byte_checks C s) (done (values_in C s)) (told (Ok f)) refl parsed)
 
   -- the first eight bytes are the layout of the record and the TPCI byte
   pub has_layout : Lawful C → Bytes s
@@ -165,7 +161,7 @@ module _ (C : Count) (s : List ℕ) (f : LDataFields) (parsed : told (Frame f) �
       let together : e ≡ a + (e - a) = omega (arith, starts) in
       let at = viewed a e in
       let behind : part ≡ take (e - a) (drop a s) =
-      is ∙ ap (shown s) (data_read ∙ let_pass (byte_checks C s) at (was_accepted (byte_checks C s) (done (values_in C s)) (told (Frame f)) refl parsed)) ∙ part_is s a e starts stands.reaches in
+      is ∙ ap (shown s) (data_read ∙ let_pass (byte_checks C s) at (was_accepted (byte_checks C s) (done (values_in C s)) (told (Ok f)) refl parsed)) ∙ part_is s a e starts stands.reaches in
       let front : take a s ≡ front_of f (get_or s 7 0) ++ cond (is_data f.tpci) (get_or s 8 0 ∷ []) [] =
       before_data d (omega (arith, starts, stands.reaches)) ∙ ap (λ (w : List ℕ). w ++ cond d (get_or s 8 0 ∷ []) []) (has_layout laws b)
       ∙ ap (λ (k : Bool). front_of f (get_or s 7 0) ++ cond k (get_or s 8 0 ∷ []) []) (sym kind_read) in
@@ -175,7 +171,7 @@ module _ (C : Count) (s : List ℕ) (f : LDataFields) (parsed : told (Frame f) �
 
 -- a control packet asks no named service, not even that of code 0
 pub control_never : (C : Count) → Lawful C → (s : List ℕ) (f : LDataFields) (code : ℕ) (r : Bool)
-    → told (Frame f) ≡ parse_where C s → data_byte (get_or s 7 0) ≡ false → IsServicePromise code f r → r ≡ false
+    → told (Ok f) ≡ parse_where C s → data_byte (get_or s 7 0) ≡ false → IsServicePromise code f r → r ≡ false
 control_never C laws s f code r p control is =
     let of : Bool → Bool = λ d. is_unknown (apci_in C d (get_or s 7 0) (get_or s 8 0)) in
     is ∙ no_name f.apci code (ap is_unknown (apci_read C s f p) ∙ ap of control ∙ laws.unnamed (get_or s 7 0))
@@ -194,46 +190,46 @@ fields_of vs = record {
   apci = apci_from (drop 7 vs);
 }
 
-answered : List ℕ → LDataAnswer
-answered vs = Frame (fields_of vs)
+answered : List ℕ → Result LDataFields Fault
+answered vs = Ok (fields_of vs)
 
-told_back : (r : LDataAnswer) → answer_of answered Refused (told r) ≡ r
+told_back : (r : Result LDataFields Fault) → answer_of answered Err (told r) ≡ r
 unfolding answered fields_of
-told_back (Frame f) =
+told_back (Ok f) =
     let vs : List ℕ = Application.values f.apci in
-    let of : Tpci → Apci → LDataAnswer = λ t a. Frame (record { ctrl1 = f.ctrl1; ctrl2 = f.ctrl2; source = f.source; destination_raw = f.destination_raw; npdu_length = f.npdu_length; tpci = t; apci = a }) in
+    let of : Tpci → Apci → (Result LDataFields Fault) = λ t a. Ok (record { ctrl1 = f.ctrl1; ctrl2 = f.ctrl2; source = f.source; destination_raw = f.destination_raw; npdu_length = f.npdu_length; tpci = t; apci = a }) in
     ap (λ (t : Tpci). of t (apci_from (drop 2 (Transport.values f.tpci ++ vs)))) (tpci_back f.tpci vs)
     ∙ ap (λ (l : List ℕ). of f.tpci (apci_from l)) (behind_tpci f.tpci vs)
     ∙ ap (of f.tpci) (apci_back f.apci)
-told_back (Refused e) = back_refused answered Refused 9 e
+told_back (Err e) = back_refused answered Err 9 e
 
-pub told_one : (r q : LDataAnswer) → told r ≡ told q → r ≡ q
-told_one = one_to_one told (answer_of answered Refused) told_back
+pub told_one : (r q : Result LDataFields Fault) → told r ≡ told q → r ≡ q
+told_one = one_to_one told (answer_of answered Err) told_back
 
-pub parse_one : (c : Counting) (s : List ℕ) (r q : LDataAnswer) → ParseInPromise c s r → ParseInPromise c s q → r ≡ q
+pub parse_one : (c : Counting) (s : List ℕ) (r q : Result LDataFields Fault) → ParseInPromise c s r → ParseInPromise c s q → r ≡ q
 parse_one c s r q a b = told_one r q (same a b)
 
-pub data_one : (c : Counting) (f : LDataFields) (s : List ℕ) (r q : View) → DataInPromise c f s r → DataInPromise c f s q → r ≡ q
+pub data_one : (c : Counting) (f : LDataFields) (s : List ℕ) (r q : Result View Fault) → DataInPromise c f s r → DataInPromise c f s q → r ≡ q
 data_one c f s r q a b = PartLaws.told_one r q (same a b)
 
 -- the address of two values, and a function back for each kind
-abbrev group_of : Told → GroupAddressAnswer
-group_of t = get_or (GroupAddressAnswer.None ∷ GroupAddressAnswer.Address (record { 0 = get_or t.values 1 0 }) ∷ []) (get_or t.values 0 0) GroupAddressAnswer.None
+abbrev group_of : Told → Option GroupAddress
+group_of t = get_or (None ∷ Some (record { 0 = get_or t.values 1 0 }) ∷ []) (get_or t.values 0 0) None
 
-group_back : (r : GroupAddressAnswer) → group_of (told_group r) ≡ r
-group_back (GroupAddressAnswer.Address a) = refl
-group_back GroupAddressAnswer.None = refl
+group_back : (r : Option GroupAddress) → group_of (told_group r) ≡ r
+group_back (Some a) = refl
+group_back None = refl
 
-abbrev individual_of : Told → IndividualAddressAnswer
-individual_of t = get_or (IndividualAddressAnswer.None ∷ IndividualAddressAnswer.Address (record { 0 = get_or t.values 1 0 }) ∷ []) (get_or t.values 0 0) IndividualAddressAnswer.None
+abbrev individual_of : Told → Option IndividualAddress
+individual_of t = get_or (None ∷ Some (record { 0 = get_or t.values 1 0 }) ∷ []) (get_or t.values 0 0) None
 
-individual_back : (r : IndividualAddressAnswer) → individual_of (told_individual r) ≡ r
-individual_back (IndividualAddressAnswer.Address a) = refl
-individual_back IndividualAddressAnswer.None = refl
+individual_back : (r : Option IndividualAddress) → individual_of (told_individual r) ≡ r
+individual_back (Some a) = refl
+individual_back None = refl
 
-pub destination_group_one : (f : LDataFields) (r q : GroupAddressAnswer) → DestinationGroupPromise f r → DestinationGroupPromise f q → r ≡ q
+pub destination_group_one : (f : LDataFields) (r q : Option GroupAddress) → DestinationGroupPromise f r → DestinationGroupPromise f q → r ≡ q
 destination_group_one f r q a b = one_to_one told_group group_of group_back r q (same a b)
 
-pub destination_individual_one : (f : LDataFields) (r q : IndividualAddressAnswer)
+pub destination_individual_one : (f : LDataFields) (r q : Option IndividualAddress)
     → DestinationIndividualPromise f r → DestinationIndividualPromise f q → r ≡ q
 destination_individual_one f r q a b = one_to_one told_individual individual_of individual_back r q (same a b)

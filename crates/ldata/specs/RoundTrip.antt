@@ -1,5 +1,5 @@
 -- "Build then parse gives the same record": what the L_Data builder wrote is parsed back, a data packet or a control packet, over how L counts. Assumes nothing.
-use Rattle.std.specs.Prelude.{ℕ, ◌+◌, ◌*◌, ◌/◌, ◌%◌, ◌≤◌, ◌≡◌, refl, Bool, true, false, not, cond, List, [], ◌∷◌, ◌++◌, length, get_or, drop}
+use Rattle.std.specs.Prelude.{ℕ, ◌+◌, ◌*◌, ◌/◌, ◌%◌, ◌≤◌, ◌≡◌, refl, Bool, true, false, not, cond, List, [], ◌∷◌, ◌++◌, length, get_or, drop, Result, Ok}
 use Rattle.std.proofs.Common.{arith, sym, ap, ◌∙◌, length-append, le-ltb}
 use Rattle.wire.specs.Clash.{never}
 use Rattle.wire.specs.Told.{done, viewed, Check, verdict, judged}
@@ -11,8 +11,6 @@ use Rattle.wire.specs.Layout.{word_of, high_of, low_of}
 use Rattle.wire.specs.LayoutLaws.{word_split}
 use Rattle.wire.specs.WritingLaws.{wrote}
 use Rattle.wire.specs.Writing as Writing
-use Rattle.wire.specs.declared.refusals.Verdict.TheVariants.{Accept}
-use Rattle.wire.specs.declared.refusals.Written.TheVariants as Written
 use Rattle.pci.specs.Transport.{is_data, kind_of, sequence_of}
 use Rattle.pci.specs.Transport as Transport
 use Rattle.pci.specs.Application.{code_in, apci_of, code_of, SixBitPromise}
@@ -31,8 +29,7 @@ use Rattle.ldata.specs.BuilderLaws as LDataBuilderLaws
 use Rattle.ldata.specs.declared.count.Counting.{Counting}
 use Rattle.ldata.specs.declared.builder.LDataBuilder.{LDataBuilder}
 use Rattle.ldata.specs.declared.ldata.LDataFields.{LDataFields}
-use Rattle.ldata.specs.declared.ldata.LDataAnswer.{LDataAnswer}
-use Rattle.ldata.specs.declared.ldata.LDataAnswer.TheVariants.{Frame}
+use Rattle.wire.specs.declared.refusals.Fault.{Fault}
 
 -- the record of a builder's fields with this L and this APCI
 abbrev pub made : LDataBuilder → ℕ → Apci → LDataFields
@@ -70,7 +67,7 @@ module _ (b : LDataBuilder) (l tpci : ℕ) (a : Apci) (rest : List ℕ) (C : Cou
   abbrev first : Bool
   first = data_byte tpci
 
-  module _ (tpci_in_lem : Transport.FromPromise tpci b.tpci) (accepts : verdict (checks C (length frame) first l) ≡ Accept) where
+  module _ (tpci_in_lem : Transport.FromPromise tpci b.tpci) (accepts : verdict (checks C (length frame) first l) ≡ Ok tt) where
     -- the bytes hold the values of the record
     values_back : apci_in C first tpci (get_or rest 0 0) ≡ a → values_in C frame ≡ values (made b l a)
     values_back apci_in_lem =
@@ -85,7 +82,7 @@ module _ (b : LDataBuilder) (l tpci : ℕ) (a : Apci) (rest : List ℕ) (C : Cou
         ∙ ap (of from to (Transport.values b.tpci)) apci_in_lem
 
     -- so the record is answered
-    fields_read : apci_in C first tpci (get_or rest 0 0) ≡ a → parse_where C frame ≡ told (Frame (made b l a))
+    fields_read : apci_in C first tpci (get_or rest 0 0) ≡ a → parse_where C frame ≡ told (Ok (made b l a))
     fields_read apci_in_lem = located_pass (byte_checks C frame) (offsets (length frame)) (done (values_in C frame)) (one_each C (length frame) first l) refl accepts ∙ ap done (values_back apci_in_lem)
 
     -- and its data is what stands there
@@ -126,13 +123,13 @@ module _ (b : LDataBuilder) (n m : ℕ) (builds : Builds b n m) where
     long : 9 + n ≤ length whole
     long = omega (arith, length-append d rest)
 
-    passes : verdict (checks C (length whole) (data_byte (tpci_byte b)) l) ≡ Accept
+    passes : verdict (checks C (length whole) (data_byte (tpci_byte b)) l) ≡ Ok tt
     passes =
         ap (λ (k : Bool). verdict (checks C (length whole) k l)) data_byte_lem
         ∙ accepts_either C (length whole) true l
         (simp (le-ltb (length whole) C.least (omega (arith, laws.nine, long)), le-ltb (length whole) (C.end_of l) (omega (arith, laws.ends n, long)), laws.fits n builds.data_253))
 
-    data_fields_back : parse_where C whole ≡ told (Frame (built b l))
+    data_fields_back : parse_where C whole ≡ told (Ok (built b l))
     data_fields_back = fields_read b l (tpci_byte b) (apci_of b.apci_code) (apci_byte b ∷ d ++ rest) C tpci_in_lem passes (apci_in_lem C)
 
     data_data_back : shown whole (data_by01 C (built b l) whole) ≡ d
@@ -162,13 +159,13 @@ module _ (b : LDataBuilder) (n m : ℕ) (builds : BuildsControl b n m) (control 
         ap (λ (d : Bool). apci_in C d (control_byte b) (get_or rest 0 0)) control_byte_lem ∙ laws.code (control_byte b)
         ∙ ap Control (control_in (get_or (Transport.values b.tpci) 0 0) (get_or (Transport.values b.tpci) 1 0) b.apci_code builds.code_3)
 
-    control_passes : verdict (checks C (length control-whole) (data_byte (control_byte b)) 0) ≡ Accept
+    control_passes : verdict (checks C (length control-whole) (data_byte (control_byte b)) 0) ≡ Ok tt
     control_passes =
         ap (λ (k : Bool). verdict (checks C (length control-whole) k 0)) control_byte_lem
         ∙ accepts_either C (length control-whole) false 0
         (simp (le-ltb (length control-whole) C.least (omega (arith, laws.enough)), le-ltb (length control-whole) (C.end_of 0) (omega (arith, laws.ends)), laws.fits))
 
-    control_fields_back : parse_where C control-whole ≡ told (Frame (control_built b))
+    control_fields_back : parse_where C control-whole ≡ told (Ok (control_built b))
     control_fields_back = fields_read b 0 (control_byte b) (Control b.apci_code) rest C control_tpci_in control_passes control_apci_in
 
     control_data_back : shown control-whole (data_by01 C (control_built b) control-whole) ≡ []
@@ -182,7 +179,7 @@ module _ (b : LDataBuilder) (n m : ℕ) (builds : BuildsControl b n m) (control 
 -- the frame w of these fields and data, k bytes of it, comes back whatever follows it
 pub record ComesBack (C : Count) (b : LDataBuilder) (d w : List ℕ) (f : LDataFields) (k : ℕ) (rest : List ℕ) : Type 0 where
   pub size : length w ≡ k
-  pub fields_back : parse_where C (w ++ rest) ≡ told (Frame f)
+  pub fields_back : parse_where C (w ++ rest) ≡ told (Ok f)
   pub data_back : shown (w ++ rest) (data_by01 C f (w ++ rest)) ≡ d
   pub same_code : code_of f.apci ≡ b.apci_code
 
@@ -195,14 +192,14 @@ built-control true true q = never cc
 built-control true false q = (refl, refl)
 built-control false y q = never cc
 
-module _ (C : Count) (laws : Lawful C) (b : LDataBuilder) (d rest : List ℕ) (m : ℕ) (accepts : verdict (checks_in C b (length d) m) ≡ Accept) where
+module _ (C : Count) (laws : Lawful C) (b : LDataBuilder) (d rest : List ℕ) (m : ℕ) (accepts : verdict (checks_in C b (length d) m) ≡ Ok tt) where
   abbrev n : ℕ
   n = length d
 
   pub comes_back : ComesBack C b d (frame_in C b d) (built_in C b n) (size_in C b n) rest
   comes_back = go (is_control C b) refl accepts
     where
-      go : (k : Bool) → is_control C b ≡ k → verdict (cond k (control_checks b n m) (LDataBuilder.checks b n m)) ≡ Accept
+      go : (k : Bool) → is_control C b ≡ k → verdict (cond k (control_checks b n m) (LDataBuilder.checks b n m)) ≡ Ok tt
           → ComesBack C b d (cond k (control_frame b) (layout b (C.length_of n) d)) (cond k (control_built b) (built b (C.length_of n))) (cond k 8 (9 + n)) rest
       go true e q =
           let builds = LDataBuilderLaws.control-accepted b n m q in
@@ -227,7 +224,7 @@ module _ (C : Count) (laws : Lawful C) (b : LDataBuilder) (d rest : List ℕ) (m
   pub six_back : is_control C b ≡ false → get_or (frame_in C b d ++ rest) 8 0 % 64 ≡ b.six_bit
   six_back e = go (is_control C b) e accepts
     where
-      go : (k : Bool) → k ≡ false → verdict (cond k (control_checks b n m) (LDataBuilder.checks b n m)) ≡ Accept
+      go : (k : Bool) → k ≡ false → verdict (cond k (control_checks b n m) (LDataBuilder.checks b n m)) ≡ Ok tt
           → get_or (cond k (control_frame b) (layout b (C.length_of n) d) ++ rest) 8 0 % 64 ≡ b.six_bit
       go true e q = never cc
       go false e q = six_in b.apci_code b.six_bit (LDataBuilderLaws.accepted b n m q).six_63
@@ -242,7 +239,7 @@ pub record Back (C : Count) (b : LDataBuilder) (d : List ℕ) (n : ℕ) (f : LDa
   pub same_data : part ≡ d
   pub same_six : is_control C b ≡ false → six ≡ b.six_bit
 
-module _ (c : Counting) (b : LDataBuilder) (d buf : List ℕ) (n : ℕ) (after : List ℕ) (built-so : BuildInPromise c b d buf (Written.Bytes n) after) where
+module _ (c : Counting) (b : LDataBuilder) (d buf : List ℕ) (n : ℕ) (after : List ℕ) (built-so : BuildInPromise c b d buf (Ok n) after) where
   abbrev C : Count
   C = count_by c
 
@@ -252,8 +249,8 @@ module _ (c : Counting) (b : LDataBuilder) (d buf : List ℕ) (n : ℕ) (after :
   abbrev w : List ℕ
   w = frame_in C b d
 
-  all : verdict cs ≡ Accept
-  all = was_accepted cs (done (length w ∷ [])) (Writing.told (Written.Bytes n)) refl built-so.0
+  all : verdict cs ≡ Ok tt
+  all = was_accepted cs (done (length w ∷ [])) (Writing.told (Ok n)) refl built-so.0
 
   back : ComesBack C b d w (built_in C b (length d)) (size_in C b (length d)) (drop (length w) buf)
   back = comes_back C (lawful c) b d (drop (length w) buf) (length buf) all
@@ -262,12 +259,12 @@ module _ (c : Counting) (b : LDataBuilder) (d buf : List ℕ) (n : ℕ) (after :
   bytes = (wrote cs w buf n after built-so).bytes
 
   -- it is parsed: no premise but that the builder answered
-  pub parsed : (r : LDataAnswer) → ParseInPromise c after r → r ≡ Frame (built_in C b (length d))
-  parsed r p = told_one r (Frame (built_in C b (length d))) (p ∙ ap (parse_where C) bytes ∙ back.fields_back)
+  pub parsed : (r : Result LDataFields Fault) → ParseInPromise c after r → r ≡ Ok (built_in C b (length d))
+  parsed r p = told_one r (Ok (built_in C b (length d))) (p ∙ ap (parse_where C) bytes ∙ back.fields_back)
 
-  pub round_trip : (f : LDataFields) (part : List ℕ) (six : ℕ) → ParseInPromise c after (Frame f) → DataPartInPromise c f after part → SixBitPromise (get_or after 8 0) six → Back C b d n f part six
+  pub round_trip : (f : LDataFields) (part : List ℕ) (six : ℕ) → ParseInPromise c after (Ok f) → DataPartInPromise c f after part → SixBitPromise (get_or after 8 0) six → Back C b d n f part six
   round_trip f part six p taken sixth =
-      let framed : Frame f ≡ Frame (built_in C b (length d)) = parsed (Frame f) p in
+      let framed : Ok f ≡ Ok (built_in C b (length d)) = parsed (Ok f) p in
       let same : f ≡ built_in C b (length d) = cc in
       record {
         count = (wrote cs w buf n after built-so).count ∙ back.size;

@@ -5,11 +5,10 @@ ghost use Rattle.ldata.specs.Count.{count_by};
 ghost use Rattle.ldata.specs.LData.{checks, offsets, ApciPromise, ParsePromise, ParseInPromise, DataPromise, DataInPromise, DataPartPromise, DataPartInPromise, DestinationGroupPromise, DestinationIndividualPromise, IsServicePromise};
 
 use crate::count::{Counting, data_start};
-use crate::destination::{GroupAddressAnswer, IndividualAddressAnswer};
 use address::{GroupAddress, IndividualAddress};
 use control::{ControlField1, ControlField2};
 use pci::{Apci, Tpci};
-use wire::{Fault, Refusal, Standing, View};
+use wire::{Fault, Refusal, View};
 
 #[derive(Clone, Copy)]
 pub struct LDataFields {
@@ -22,24 +21,18 @@ pub struct LDataFields {
     pub apci: Apci,
 }
 
-#[derive(Clone, Copy)]
-pub enum LDataAnswer {
-    Frame(LDataFields),
-    Refused(Fault),
-}
-
 impl LDataFields {
     // Control packets need nine bytes too, as in the Rust.
     pub const MIN_SIZE: usize = 9;
 
     // In the crate's count, as in the Rust.
-    pub fn parse(data: &[u8]) -> LDataAnswer
+    pub fn parse(data: &[u8]) -> Result<LDataFields, Fault>
         ensures { ParsePromise «data».now result }
     {
         LDataFields::parse_in(Counting::Crate, data)
     }
 
-    pub fn parse_in(counting: Counting, data: &[u8]) -> LDataAnswer
+    pub fn parse_in(counting: Counting, data: &[u8]) -> Result<LDataFields, Fault>
         ensures { ParseInPromise counting «data».now result }
     {
         let npdu_length = wire::byte_at(data, 6);
@@ -47,13 +40,13 @@ impl LDataFields {
         let tpci = Tpci::from_byte(tpci_byte);
         let is_data = tpci.is_data();
         match stands(counting, data.len(), is_data, npdu_length) {
-            Standing::Stands => {
+            Ok(()) => {
                 let ctrl1 = ControlField1::from_u8(wire::byte_at(data, 0));
                 let ctrl2 = ControlField2::from_u8(wire::byte_at(data, 1));
                 let source = IndividualAddress::from_u16(wire::word_at(data, 2));
                 let destination_raw = wire::word_at(data, 4);
                 let apci = apci_of(counting, is_data, tpci_byte, wire::byte_at(data, 8));
-                LDataAnswer::Frame(LDataFields {
+                Ok(LDataFields {
                     ctrl1,
                     ctrl2,
                     source,
@@ -63,7 +56,7 @@ impl LDataFields {
                     apci,
                 })
             }
-            Standing::Falls(fault) => LDataAnswer::Refused(fault),
+            Err(fault) => Err(fault),
         }
     }
 
@@ -80,13 +73,13 @@ impl LDataFields {
         let tpci = self.tpci;
         let is_data = tpci.is_data();
         match stands(counting, data.len(), is_data, self.npdu_length) {
-            Standing::Stands => View {
+            Ok(()) => View {
                 number: 0,
                 start: data_start(is_data),
                 end: counting.data_end(self.npdu_length),
                 offset: 0,
             },
-            Standing::Falls(fault) => View::refused(fault),
+            Err(fault) => View::refused(fault),
         }
     }
 
@@ -103,24 +96,24 @@ impl LDataFields {
         wire::part(data, view.start, view.end)
     }
 
-    pub fn destination_group(self) -> GroupAddressAnswer
+    pub fn destination_group(self) -> Option<GroupAddress>
         ensures { DestinationGroupPromise self result }
     {
         let ctrl2 = self.ctrl2;
         if ctrl2.is_group_address() {
-            return GroupAddressAnswer::Address(GroupAddress::from_u16(self.destination_raw));
+            return Some(GroupAddress::from_u16(self.destination_raw));
         }
-        GroupAddressAnswer::None
+        None
     }
 
-    pub fn destination_individual(self) -> IndividualAddressAnswer
+    pub fn destination_individual(self) -> Option<IndividualAddress>
         ensures { DestinationIndividualPromise self result }
     {
         let ctrl2 = self.ctrl2;
         if ctrl2.is_group_address() {
-            return IndividualAddressAnswer::None;
+            return None;
         }
-        IndividualAddressAnswer::Address(IndividualAddress::from_u16(self.destination_raw))
+        Some(IndividualAddress::from_u16(self.destination_raw))
     }
 
     pub fn is_group_write(self) -> bool
@@ -156,25 +149,25 @@ fn apci_of(counting: Counting, is_data: bool, byte1: u8, byte2: u8) -> Apci
 }
 
 // The checks of an L_Data frame over a slice of n bytes, whoever made its fields. The last two both refuse with 2 at L, so one order of them answers for both counts.
-fn stands(counting: Counting, n: usize, is_data: bool, npdu_length: u8) -> Standing
+fn stands(counting: Counting, n: usize, is_data: bool, npdu_length: u8) -> Result<(), Fault>
     ensures { result ≡ standing (checks (count_by counting) n is_data npdu_length) (offsets n) }
 {
     if n < counting.least() {
-        return Standing::Falls(Fault {
+        return Err(Fault {
             why: Refusal::BufferTooSmall,
             at: n,
         });
     }
     if n < counting.data_end(npdu_length) {
-        return Standing::Falls(Fault {
+        return Err(Fault {
             why: Refusal::InvalidFrame,
             at: 6,
         });
     }
     if counting.allows(is_data, npdu_length) {
-        return Standing::Stands;
+        return Ok(());
     }
-    Standing::Falls(Fault {
+    Err(Fault {
         why: Refusal::InvalidFrame,
         at: 6,
     })

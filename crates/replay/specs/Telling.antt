@@ -1,11 +1,10 @@
 -- What a call told, as it is handed to its line: a number of 01, values, and the offsets of refusals. Assumes nothing.
-use Rattle.std.specs.Prelude.{ℕ, ◌+◌, ◌*◌, ◌%◌, ◌≡◌, Bool, true, false, cond, List, [], ◌∷◌, eqb, ltb, get_or, set}
+use Rattle.std.specs.Prelude.{ℕ, ◌+◌, ◌*◌, ◌%◌, ◌≡◌, Bool, true, false, cond, List, [], ◌∷◌, eqb, ltb, get_or, set, Result, Ok, Err}
 use Rattle.wire.specs.Refusals.{number_of}
 use Rattle.wire.specs.Told.{nowhere}
 use Rattle.wire.specs.declared.refusals.Fault.{Fault}
-use Rattle.wire.specs.declared.refusals.Written.{Written}
-use Rattle.wire.specs.declared.refusals.Written.TheVariants.{Bytes, Refused}
 use Rattle.replay.specs.declared.telling.Told.{Told}
+use Rattle.wire.specs.declared.refusals.Refusal.{Refusal}
 
 -- four values, and zeros up to sixteen
 abbrev pub padded : ℕ → ℕ → ℕ → ℕ → List ℕ
@@ -52,11 +51,11 @@ abbrev pub lent : Told → Told
 lent t = record { number = t.number; count = t.count; values = t.values; lends = true; refusals = t.refusals; offsets = t.offsets }
 
 -- the count of an encoder or a builder, or its refusal, which no field decided
-abbrev pub writing : Written → Told
-writing (Bytes n) = lent (few_of 1 (n ∷ 0 ∷ 0 ∷ 0 ∷ []))
-writing (Refused why) = lent (refusal (nowhere why) 1)
+abbrev pub writing : Result ℕ Refusal → Told
+writing (Ok n) = lent (few_of 1 (n ∷ 0 ∷ 0 ∷ 0 ∷ []))
+writing (Err why) = lent (refusal (nowhere why) 1)
 
-abbrev pub WrittenPromise : Written → Told → Type 0
+abbrev pub WrittenPromise : Result ℕ Refusal → Told → Type 0
 WrittenPromise w r = r ≡ writing w
 
 -- the bytes of a part as one number, behind what was read of it, by 65,521

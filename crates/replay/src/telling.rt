@@ -2,7 +2,7 @@
 ghost use Rattle.std.specs.Prelude.{◌≡◌};
 ghost use Rattle.replay.specs.Telling.{RefusedPromise, FewPromise, LocatedPromise, FlagPromise, MovedPromise, lent, WrittenPromise, RemainderPromise};
 
-use wire::{Fault, Written};
+use wire::Fault;
 
 // A number of 01 and the first `count` of the values; `lends` where the buffer is shown too; the offsets of the refusals that the line tells.
 #[derive(Clone, Copy)]
@@ -81,12 +81,12 @@ pub fn moved(start: usize, at: usize) -> usize
 }
 
 // What an encoder or a builder answered; its refusal names no field.
-pub fn written(w: Written) -> Told
+pub fn written(w: Result<usize, Refusal>) -> Told
     ensures { WrittenPromise w result }
 {
     match w {
-        Written::Bytes(n) => lending(few(1, [n, 0, 0, 0])),
-        Written::Refused(why) => lending(refused(Fault { why, at: 0 }, 1)),
+        Ok(n) => lending(few(1, [n, 0, 0, 0])),
+        Err(why) => lending(refused(Fault { why, at: 0 }, 1)),
     }
 }
 

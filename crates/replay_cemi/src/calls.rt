@@ -1,5 +1,5 @@
 // The calls of cemi.rs on codes, control fields, TPCI and APCI, 28 to 39.
-use constants::{CEMIMessageCode, CEMIMessageCodeAnswer, Priority};
+use constants::{CEMIMessageCode, Priority};
 use control::{ControlField1, ControlField2};
 use pci::{Apci, Tpci};
 use replay::Told;
@@ -34,11 +34,11 @@ fn only(value: u8) -> Told {
 
 fn message_code_from(args: &[u8]) -> Told {
     match CEMIMessageCode::from_u8(wire::byte_at(args, 0)) {
-        CEMIMessageCodeAnswer::Code(m) => replay::few(
+        Ok(m) => replay::few(
             2,
             [variants::message_code(m), m.to_u8() as usize, 0, 0],
         ),
-        CEMIMessageCodeAnswer::Refused(fault) => replay::refused(fault, 2),
+        Err(fault) => replay::refused(fault, 2),
     }
 }
 

@@ -1,10 +1,6 @@
 // The calls of services.rs that connect, keep alive and disconnect, 12 to 21, and those of a session with a real gateway, 73 to 75.
 use crate::hpai_calls;
-use connect::{
-    ConnectRequest, ConnectResponse, ConnectResponseAnswer, ConnectionRequestInfo,
-    ConnectionRequestInfoAnswer, ConnectionStateAnswer, ConnectionStateRequest,
-    ConnectionStateResponse, DisconnectAnswer, DisconnectRequest, DisconnectResponse,
-};
+use connect::{ConnectRequest, ConnectResponse, ConnectResponseAnswer, ConnectionRequestInfo, ConnectionStateRequest, ConnectionStateResponse, DisconnectRequest, DisconnectResponse};
 use replay::Told;
 
 fn cri(c: ConnectionRequestInfo) -> Told {
@@ -29,8 +25,8 @@ pub(crate) fn cri_encode(args: &[u8], buf: &mut [u8]) -> Told {
 
 pub(crate) fn cri_decode(args: &[u8]) -> Told {
     match ConnectionRequestInfo::decode(args) {
-        ConnectionRequestInfoAnswer::Info(c) => cri(c),
-        ConnectionRequestInfoAnswer::Refused(fault) => replay::refused(fault, 2),
+        Ok(c) => cri(c),
+        Err(fault) => replay::refused(fault, 2),
     }
 }
 
@@ -101,8 +97,8 @@ pub(crate) fn state_build(args: &[u8], buf: &mut [u8]) -> Told {
 
 pub(crate) fn state_parse(args: &[u8]) -> Told {
     match ConnectionStateResponse::parse(args) {
-        ConnectionStateAnswer::Response(c) => status(c.channel_id, c.status, c.is_ok()),
-        ConnectionStateAnswer::Refused(fault) => replay::refused(fault, 3),
+        Ok(c) => status(c.channel_id, c.status, c.is_ok()),
+        Err(fault) => replay::refused(fault, 3),
     }
 }
 
@@ -115,8 +111,8 @@ pub(crate) fn disconnect_build(args: &[u8], buf: &mut [u8]) -> Told {
 
 pub(crate) fn disconnect_parse(args: &[u8]) -> Told {
     match DisconnectResponse::parse(args) {
-        DisconnectAnswer::Response(c) => status(c.channel_id, c.status, c.is_ok()),
-        DisconnectAnswer::Refused(fault) => replay::refused(fault, 3),
+        Ok(c) => status(c.channel_id, c.status, c.is_ok()),
+        Err(fault) => replay::refused(fault, 3),
     }
 }
 

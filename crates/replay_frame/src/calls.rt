@@ -1,7 +1,7 @@
 // The calls of frame.rs on headers and frames, 1 to 8. Argument bytes that are missing count as 0; another call gets a line that no call has.
-use constants::{ServiceAnswer, ServiceType};
-use frame::{FrameAnswer, FrameBuilder, FrameFields};
-use header::{HeaderAnswer, KnxnetIpHeader};
+use constants::ServiceType;
+use frame::{FrameBuilder, FrameFields};
+use header::KnxnetIpHeader;
 use replay::Told;
 
 pub(crate) fn answer(call: u8, args: &[u8], buf: &mut [u8]) -> Told {
@@ -20,11 +20,11 @@ pub(crate) fn answer(call: u8, args: &[u8], buf: &mut [u8]) -> Told {
 
 fn service_from(args: &[u8]) -> Told {
     match ServiceType::from_u16(wire::word_at(args, 0)) {
-        ServiceAnswer::Service(s) => replay::few(
+        Ok(s) => replay::few(
             2,
             [variants::service(s), s.to_u16() as usize, 0, 0],
         ),
-        ServiceAnswer::Refused(fault) => replay::refused(fault, 2),
+        Err(fault) => replay::refused(fault, 2),
     }
 }
 
@@ -47,10 +47,10 @@ fn header(h: KnxnetIpHeader, count: usize) -> Told {
     t
 }
 
-fn header_answer(a: HeaderAnswer) -> Told {
+fn header_answer(a: Result<KnxnetIpHeader, Fault>) -> Told {
     match a {
-        HeaderAnswer::Header(h) => header(h, 5),
-        HeaderAnswer::Refused(fault) => replay::refused(fault, 5),
+        Ok(h) => header(h, 5),
+        Err(fault) => replay::refused(fault, 5),
     }
 }
 
@@ -85,8 +85,8 @@ fn header_body_length(args: &[u8]) -> Told {
 
 fn frame_parse(args: &[u8]) -> Told {
     match FrameFields::parse(args) {
-        FrameAnswer::Frame(f) => frame(f, args),
-        FrameAnswer::Refused(fault) => replay::refused(fault, 13),
+        Ok(f) => frame(f, args),
+        Err(fault) => replay::refused(fault, 13),
     }
 }
 
@@ -107,24 +107,24 @@ fn frame(f: FrameFields, args: &[u8]) -> Told {
     t
 }
 
-fn frame_header(a: HeaderAnswer) -> Told {
+fn frame_header(a: Result<KnxnetIpHeader, Fault>) -> Told {
     match a {
-        HeaderAnswer::Header(h) => header(h, 13),
-        HeaderAnswer::Refused(fault) => replay::refused(fault, 13),
+        Ok(h) => header(h, 13),
+        Err(fault) => replay::refused(fault, 13),
     }
 }
 
-fn number_in(a: ServiceAnswer) -> usize {
+fn number_in(a: Result<ServiceType, Fault>) -> usize {
     match a {
-        ServiceAnswer::Service(s) => variants::service(s),
-        ServiceAnswer::Refused(_) => 0,
+        Ok(s) => variants::service(s),
+        Err(_) => 0,
     }
 }
 
-fn code_in(a: ServiceAnswer) -> usize {
+fn code_in(a: Result<ServiceType, Fault>) -> usize {
     match a {
-        ServiceAnswer::Service(s) => s.to_u16() as usize,
-        ServiceAnswer::Refused(_) => 0,
+        Ok(s) => s.to_u16() as usize,
+        Err(_) => 0,
     }
 }
 

@@ -1,8 +1,6 @@
 // The calls on additional information, 58 to 64. Argument bytes that are missing count as 0; another call gets a line that no call has.
-use additional_info::{
-    AdditionalInfo, AdditionalInfoAnswer, AdditionalInfoType, CountAnswer, Timestamp,
-};
-use cemi::{CEMIAnswer, CEMIFrame};
+use additional_info::{AdditionalInfo, AdditionalInfoAnswer, AdditionalInfoType};
+use cemi::CEMIFrame;
 use replay::Told;
 
 pub(crate) fn answer(call: u8, args: &[u8], buf: &mut [u8]) -> Told {
@@ -50,24 +48,24 @@ fn record(answer: AdditionalInfoAnswer, area: &[u8]) -> Told {
     }
 }
 
-fn valued(timestamp: Timestamp) -> usize {
+fn valued(timestamp: Option<u32>) -> usize {
     match timestamp {
-        Timestamp::Value(_) => 1,
-        Timestamp::None => 0,
+        Some(_) => 1,
+        None => 0,
     }
 }
 
-fn value(timestamp: Timestamp) -> usize {
+fn value(timestamp: Option<u32>) -> usize {
     match timestamp {
-        Timestamp::Value(n) => n as usize,
-        Timestamp::None => 0,
+        Some(n) => n as usize,
+        None => 0,
     }
 }
 
 fn count(args: &[u8]) -> Told {
     match additional_info::count(args) {
-        CountAnswer::Count(n) => replay::few(1, [n, 0, 0, 0]),
-        CountAnswer::Refused(fault) => replay::refused(fault, 1),
+        Ok(n) => replay::few(1, [n, 0, 0, 0]),
+        Err(fault) => replay::refused(fault, 1),
     }
 }
 
@@ -93,14 +91,14 @@ fn append(args: &[u8], buf: &mut [u8]) -> Told {
 
 fn area(args: &[u8]) -> Told {
     match CEMIFrame::parse(args) {
-        CEMIAnswer::Frame(f) => {
+        Ok(f) => {
             let view = f.additional_info(args);
             let rest = replay::remainder(f.additional_info_part(args));
             let mut told = replay::few(3, [view.start, view.end, rest, 0]);
             told.number = view.number;
             replay::located(told, view.number, view.offset)
         }
-        CEMIAnswer::Refused(fault) => replay::refused(fault, 3),
+        Err(fault) => replay::refused(fault, 3),
     }
 }
 

@@ -1,12 +1,10 @@
 // The calls of cemi.rs on L_Data and cEMI frames, 40 to 44, and the L_Data builder, 45; and in the standard count, 65 to 68.
 use address::IndividualAddress;
-use cemi::{CEMIAnswer, CEMIFrame, InfoLengthAnswer};
+use cemi::CEMIFrame;
 use control::{ControlField1, ControlField2};
-use ldata::{
-    Counting, GroupAddressAnswer, IndividualAddressAnswer, LDataAnswer, LDataBuilder, LDataFields,
-};
+use ldata::{Counting, LDataBuilder, LDataFields};
 use replay::Told;
-use wire::{View, Written};
+use wire::View;
 
 pub(crate) fn answer(call: u8, args: &[u8], buf: &mut [u8]) -> Told {
     match call {
@@ -57,8 +55,8 @@ fn fields(f: LDataFields, start: usize, end: usize, rest: usize) -> Told {
 
 fn ldata_parse(counting: Counting, args: &[u8]) -> Told {
     match parsed(counting, args) {
-        LDataAnswer::Frame(f) => ldata(counting, f, args),
-        LDataAnswer::Refused(fault) => replay::refused(fault, 15),
+        Ok(f) => ldata(counting, f, args),
+        Err(fault) => replay::refused(fault, 15),
     }
 }
 
@@ -84,29 +82,29 @@ fn asks(f: LDataFields) -> usize {
 // An address is shown as one more than its number, none as 0.
 fn group(f: LDataFields) -> usize {
     match f.destination_group() {
-        GroupAddressAnswer::Address(a) => a.to_u16() as usize + 1,
-        GroupAddressAnswer::None => 0,
+        Some(a) => a.to_u16() as usize + 1,
+        None => 0,
     }
 }
 
 fn individual(f: LDataFields) -> usize {
     match f.destination_individual() {
-        IndividualAddressAnswer::Address(a) => a.to_u16() as usize + 1,
-        IndividualAddressAnswer::None => 0,
+        Some(a) => a.to_u16() as usize + 1,
+        None => 0,
     }
 }
 
 fn cemi_parse(args: &[u8]) -> Told {
     match CEMIFrame::parse(args) {
-        CEMIAnswer::Frame(f) => cemi(f, args),
-        CEMIAnswer::Refused(fault) => replay::refused(fault, 4),
+        Ok(f) => cemi(f, args),
+        Err(fault) => replay::refused(fault, 4),
     }
 }
 
 fn cemi(f: CEMIFrame, args: &[u8]) -> Told {
     let code = f.message_code();
     match f.additional_info_length(args) {
-        InfoLengthAnswer::Length(n) => replay::few(
+        Ok(n) => replay::few(
             4,
             [
                 variants::message_code(code),
@@ -115,14 +113,14 @@ fn cemi(f: CEMIFrame, args: &[u8]) -> Told {
                 replay::flag(f.is_ldata()),
             ],
         ),
-        InfoLengthAnswer::Refused(fault) => replay::refused(fault, 4),
+        Err(fault) => replay::refused(fault, 4),
     }
 }
 
 fn service_info(args: &[u8]) -> Told {
     match CEMIFrame::parse(args) {
-        CEMIAnswer::Frame(f) => shown(f, args),
-        CEMIAnswer::Refused(fault) => replay::refused(fault, 3),
+        Ok(f) => shown(f, args),
+        Err(fault) => replay::refused(fault, 3),
     }
 }
 
@@ -136,15 +134,15 @@ fn shown(f: CEMIFrame, args: &[u8]) -> Told {
 
 fn as_ldata(counting: Counting, args: &[u8]) -> Told {
     match CEMIFrame::parse(args) {
-        CEMIAnswer::Frame(f) => inside(counting, f, args, 12),
-        CEMIAnswer::Refused(fault) => replay::refused(fault, 12),
+        Ok(f) => inside(counting, f, args, 12),
+        Err(fault) => replay::refused(fault, 12),
     }
 }
 
 // The L_Data frame in a cEMI frame, and the data that it hands out; its data is found in the part that holds it.
 fn inside(counting: Counting, f: CEMIFrame, args: &[u8], count: usize) -> Told {
     match telegram(counting, f, args) {
-        LDataAnswer::Frame(l) => {
+        Ok(l) => {
             let info = f.service_info(args);
             let part = f.service_info_part(args);
             let view = data_view(counting, l, part);
@@ -155,7 +153,7 @@ fn inside(counting: Counting, f: CEMIFrame, args: &[u8], count: usize) -> Told {
                 replay::remainder(data_part(counting, l, part)),
             )
         }
-        LDataAnswer::Refused(fault) => replay::refused(fault, count),
+        Err(fault) => replay::refused(fault, count),
     }
 }
 
@@ -163,8 +161,8 @@ fn inside(counting: Counting, f: CEMIFrame, args: &[u8], count: usize) -> Told {
 fn as_ldata_set(args: &[u8]) -> Told {
     let whole = wire::part(args, 1, args.len());
     match CEMIFrame::parse(whole) {
-        CEMIAnswer::Frame(_) => set(wire::byte_at(args, 0), whole),
-        CEMIAnswer::Refused(fault) => replay::refused(fault, 13),
+        Ok(_) => set(wire::byte_at(args, 0), whole),
+        Err(fault) => replay::refused(fault, 13),
     }
 }
 
@@ -204,7 +202,7 @@ fn ldata_build(counting: Counting, args: &[u8], buf: &mut [u8]) -> Told {
 }
 
 // In the crate's count each function goes by its own name, in the standard count by the one that is given a count.
-fn parsed(counting: Counting, args: &[u8]) -> LDataAnswer {
+fn parsed(counting: Counting, args: &[u8]) -> Result<LDataFields, Fault> {
     match counting {
         Counting::Crate => LDataFields::parse(args),
         Counting::Standard => LDataFields::parse_in(counting, args),
@@ -232,14 +230,14 @@ fn borrowed_data(counting: Counting, args: &[u8]) -> &[u8] {
     }
 }
 
-fn telegram(counting: Counting, f: CEMIFrame, args: &[u8]) -> LDataAnswer {
+fn telegram(counting: Counting, f: CEMIFrame, args: &[u8]) -> Result<LDataFields, Fault> {
     match counting {
         Counting::Crate => f.as_ldata(args),
         Counting::Standard => f.as_ldata_in(counting, args),
     }
 }
 
-fn built(counting: Counting, builder: LDataBuilder, data: &[u8], buf: &mut [u8]) -> Written {
+fn built(counting: Counting, builder: LDataBuilder, data: &[u8], buf: &mut [u8]) -> Result<usize, Refusal> {
     match counting {
         Counting::Crate => builder.build(data, buf),
         Counting::Standard => builder.build_in(counting, data, buf),

@@ -2,8 +2,7 @@
 use crate::frames;
 use address::IndividualAddress;
 use control::{ControlField1, ControlField2};
-use frame::FrameAnswer;
-use ldata::{Counting, LDataAnswer, LDataFields};
+use ldata::{Counting, LDataFields};
 use replay::Told;
 use wire::{Fault, View};
 
@@ -13,9 +12,9 @@ pub(crate) fn body(args: &[u8]) -> Told {
     let data = wire::part(args, 6, args.len());
     let refused = wire::byte_at(args, 0);
     if refused == 0 {
-        return view(borrowed::body_view(data, FrameAnswer::Frame(fields)), data);
+        return view(borrowed::body_view(data, Ok(fields)), data);
     }
-    let answer = FrameAnswer::Refused(held(refused));
+    let answer = Err(held(refused));
     view(borrowed::body_view(data, answer), data)
 }
 
@@ -33,12 +32,12 @@ pub(crate) fn data_standard(args: &[u8]) -> Told {
 }
 
 // The refusal that the record holds, 0 for none, then L, kind, sequence, and the data that it holds.
-fn answer(args: &[u8]) -> LDataAnswer {
+fn answer(args: &[u8]) -> Result<LDataFields, Fault> {
     let refused = wire::byte_at(args, 0);
     if refused == 0 {
-        return LDataAnswer::Frame(fields(args));
+        return Ok(fields(args));
     }
-    LDataAnswer::Refused(held(refused))
+    Err(held(refused))
 }
 
 // A refusal that no parse made, at an offset that differs from number to number.

@@ -1,7 +1,6 @@
 // Frames whose fields no parse read, by the accessors of the fields.
-use constants::ServiceAnswer;
 use frame::FrameFields;
-use header::{HeaderAnswer, KnxnetIpHeader};
+use header::KnxnetIpHeader;
 use replay::Told;
 
 // Length, version, service by its number, total.
@@ -35,9 +34,9 @@ pub(crate) fn accessors(args: &[u8]) -> Told {
     replay::located(after_body, data.number, data.offset)
 }
 
-fn header(a: HeaderAnswer) -> Told {
+fn header(a: Result<KnxnetIpHeader, Fault>) -> Told {
     match a {
-        HeaderAnswer::Header(h) => {
+        Ok(h) => {
             let s = h.service_type;
             let mut t = replay::few(
                 15,
@@ -51,7 +50,7 @@ fn header(a: HeaderAnswer) -> Told {
             t.values[4] = h.total_length as usize;
             t
         }
-        HeaderAnswer::Refused(fault) => {
+        Err(fault) => {
             let why = fault.why;
             let number = why.number();
             replay::located(
@@ -64,14 +63,14 @@ fn header(a: HeaderAnswer) -> Told {
 }
 
 // The service type behind the header's values.
-fn service(headed: Told, a: ServiceAnswer) -> Told {
+fn service(headed: Told, a: Result<ServiceType, Fault>) -> Told {
     let mut t = headed;
     match a {
-        ServiceAnswer::Service(s) => {
+        Ok(s) => {
             t.values[6] = variants::service(s);
             t
         }
-        ServiceAnswer::Refused(fault) => {
+        Err(fault) => {
             let why = fault.why;
             let number = why.number();
             t.values[5] = number as usize;

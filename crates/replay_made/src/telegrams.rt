@@ -1,8 +1,8 @@
 // cEMI and L_Data frames whose fields no parse read, by the accessors of the fields.
 use address::IndividualAddress;
-use cemi::{CEMIFrame, InfoLengthAnswer};
+use cemi::CEMIFrame;
 use control::{ControlField1, ControlField2};
-use ldata::{Counting, GroupAddressAnswer, IndividualAddressAnswer, LDataAnswer, LDataFields};
+use ldata::{Counting, LDataFields};
 use replay::Told;
 use wire::View;
 
@@ -26,10 +26,10 @@ pub(crate) fn cemi(args: &[u8]) -> Told {
     replay::located(t, info.number, info.offset)
 }
 
-fn info_length(a: InfoLengthAnswer) -> Told {
+fn info_length(a: Result<u8, Fault>) -> Told {
     match a {
-        InfoLengthAnswer::Length(n) => replay::few(8, [0, 0, 0, n as usize]),
-        InfoLengthAnswer::Refused(fault) => {
+        Ok(n) => replay::few(8, [0, 0, 0, n as usize]),
+        Err(fault) => {
             let why = fault.why;
             let number = why.number();
             replay::located(replay::few(8, [0, 0, number as usize, 0]), number, fault.at)
@@ -41,8 +41,8 @@ pub(crate) fn as_ldata(args: &[u8]) -> Told {
     let f = frame_at(args);
     let slice = wire::part(args, 1, args.len());
     match f.as_ldata(slice) {
-        LDataAnswer::Frame(l) => inside(l, f.service_info(slice).start, f.service_info_part(slice)),
-        LDataAnswer::Refused(fault) => replay::refused(fault, 12),
+        Ok(l) => inside(l, f.service_info(slice).start, f.service_info_part(slice)),
+        Err(fault) => replay::refused(fault, 12),
     }
 }
 
@@ -124,14 +124,14 @@ fn asks(f: LDataFields) -> usize {
 // An address is shown as one more than its number, none as 0.
 fn group(f: LDataFields) -> usize {
     match f.destination_group() {
-        GroupAddressAnswer::Address(a) => a.to_u16() as usize + 1,
-        GroupAddressAnswer::None => 0,
+        Some(a) => a.to_u16() as usize + 1,
+        None => 0,
     }
 }
 
 fn individual(f: LDataFields) -> usize {
     match f.destination_individual() {
-        IndividualAddressAnswer::Address(a) => a.to_u16() as usize + 1,
-        IndividualAddressAnswer::None => 0,
+        Some(a) => a.to_u16() as usize + 1,
+        None => 0,
     }
 }

@@ -1,9 +1,6 @@
 // The calls of services.rs that tunnel, 22 to 27, and an acknowledgement in KNX's own form, 71 and 72.
 use replay::Told;
-use tunnelling::{
-    ConnectionHeader, ConnectionHeaderAnswer, Form, TunnelingAck, TunnelingAckAnswer,
-    TunnelingRequest, TunnelingRequestAnswer,
-};
+use tunnelling::{ConnectionHeader, Form, TunnelingAck, TunnelingRequest};
 
 pub(crate) fn answer(call: u8, args: &[u8], buf: &mut [u8]) -> Told {
     match call {
@@ -29,8 +26,8 @@ fn header_encode(args: &[u8], buf: &mut [u8]) -> Told {
 
 fn header_decode(args: &[u8]) -> Told {
     match ConnectionHeader::decode(args) {
-        ConnectionHeaderAnswer::Header(h) => told(h, 2, 0, 0),
-        ConnectionHeaderAnswer::Refused(fault) => replay::refused(fault, 2),
+        Ok(h) => told(h, 2, 0, 0),
+        Err(fault) => replay::refused(fault, 2),
     }
 }
 
@@ -41,8 +38,8 @@ fn request_build(args: &[u8], buf: &mut [u8]) -> Told {
 
 fn request_parse(args: &[u8]) -> Told {
     match TunnelingRequest::parse(args) {
-        TunnelingRequestAnswer::Request(q) => request(q, args),
-        TunnelingRequestAnswer::Refused(fault) => replay::refused(fault, 5),
+        Ok(q) => request(q, args),
+        Err(fault) => replay::refused(fault, 5),
     }
 }
 
@@ -73,15 +70,15 @@ fn standard_ack_parse(args: &[u8]) -> Told {
     ack(TunnelingAck::parse_in(Form::Standard, args))
 }
 
-fn ack(answer: TunnelingAckAnswer) -> Told {
+fn ack(answer: Result<TunnelingAck, Fault>) -> Told {
     match answer {
-        TunnelingAckAnswer::Ack(a) => told(
+        Ok(a) => told(
             a.connection_header,
             4,
             a.status as usize,
             replay::flag(a.is_ok()),
         ),
-        TunnelingAckAnswer::Refused(fault) => replay::refused(fault, 4),
+        Err(fault) => replay::refused(fault, 4),
     }
 }
 

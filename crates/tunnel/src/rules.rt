@@ -38,19 +38,12 @@ pub enum Arrival {
     OutOfOrder,
 }
 
-// What a step leaves of a channel.
-#[derive(Clone, Copy)]
-pub enum Left {
-    Open(Tunnel),
-    Closed,
-}
-
 // A number of 01, what is said beside 0, and what is left of the channel.
 #[derive(Clone, Copy)]
 pub struct Stepped {
     pub number: u8,
     pub said: Said,
-    pub left: Left,
+    pub left: Option<Tunnel>,
 }
 
 impl Tunnel {
@@ -94,7 +87,7 @@ impl Tunnel {
             Wait::Idle => Stepped {
                 number: wire::Refusal::AwaitsNothing.number(),
                 said: Said::Nothing,
-                left: Left::Open(self),
+                left: Some(self),
             },
             Wait::First => stay(
                 Said::Repeat,
@@ -107,7 +100,7 @@ impl Tunnel {
             Wait::Second => Stepped {
                 number: 0,
                 said: Said::GiveUp,
-                left: Left::Closed,
+                left: None,
             },
         }
     }
@@ -163,6 +156,6 @@ fn stay(said: Said, t: Tunnel) -> Stepped
     Stepped {
         number: 0,
         said,
-        left: Left::Open(t),
+        left: Some(t),
     }
 }

@@ -1,13 +1,12 @@
 -- 01, "Datagram": frame refusals, then 12 unless the service is 0x0420 or 0x0421, then body refusals. Reserved bytes and the connection header's length byte are not looked at. An acknowledgement is read in the form that is given; 01's is the crate's. Assumes nothing.
-use Rattle.std.specs.Prelude.{ℕ, ◌+◌, ◌≡◌, cond, List, [], ◌∷◌, length, get_or, eqb}
+use Rattle.std.specs.Prelude.{ℕ, ◌+◌, ◌≡◌, cond, List, [], ◌∷◌, length, get_or, eqb, Ok, Err}
 use Rattle.wire.specs.Told.{Told, done, refused, Check}
 use Rattle.wire.specs.Places.{standing, later}
 use Rattle.wire.specs.Layout.{get}
 use Rattle.wire.specs.Parts.{part_of}
 use Rattle.wire.specs.declared.refusals.Fault.{Fault}
 use Rattle.wire.specs.declared.refusals.Refusal.TheVariants.{NotForTunnels}
-use Rattle.wire.specs.declared.refusals.Standing.{Standing}
-use Rattle.wire.specs.declared.refusals.Standing.TheVariants.{Stands, Falls}
+use Rattle.wire.specs.Places.{Standing}
 use Rattle.constants.specs.Constants.{header_size}
 use Rattle.constants.specs.Services.{code_of}
 use Rattle.constants.specs.declared.services.ServiceType.TheVariants.{TunnellingRequest, TunnellingAck}
@@ -37,8 +36,8 @@ told (Ack channel n status) = done (2 ∷ channel ∷ n ∷ status ∷ [])
 told (Refused e) = refused 4 e
 
 abbrev pub heard_or : Standing → Heard → Heard
-heard_or Stands h = h
-heard_or (Falls f) h = Refused f
+heard_or (Ok tt) h = h
+heard_or (Err f) h = Refused f
 
 -- of what a connection header holds: channel, then number
 abbrev pub channel_in : List ℕ → ℕ

@@ -1,5 +1,5 @@
 -- A datagram's checks as one list in 01's order: the frame's, the service's, then the body's, which stands behind the header. What is heard goes by that list, number and offset alike. Assumes nothing.
-use Rattle.std.specs.Prelude.{ℕ, suc, ◌≡◌, refl, Bool, true, false, cond, List, ◌∷◌, [], ◌++◌, length, get_or, eqb}
+use Rattle.std.specs.Prelude.{ℕ, suc, ◌≡◌, refl, Bool, true, false, cond, List, ◌∷◌, [], ◌++◌, length, get_or, eqb, Ok, Err}
 use Rattle.std.proofs.Common.{sym, ap, ◌∙◌}
 use Rattle.wire.specs.Told.{Check, ◌⇒◌, none_of, verdict}
 use Rattle.wire.specs.Places.{place, stands_at, standing, moved, and_then}
@@ -7,9 +7,7 @@ use Rattle.wire.specs.PlaceLaws.{stands_then, stands-later}
 use Rattle.wire.specs.Layout.{get}
 use Rattle.wire.specs.Parts.{part_of}
 use Rattle.wire.specs.declared.refusals.Refusal.TheVariants.{NotForTunnels}
-use Rattle.wire.specs.declared.refusals.Verdict.TheVariants.{Refuse}
-use Rattle.wire.specs.declared.refusals.Standing.{Standing}
-use Rattle.wire.specs.declared.refusals.Standing.TheVariants.{Stands, Falls}
+use Rattle.wire.specs.Places.{Standing}
 use Rattle.constants.specs.Constants.{header_size}
 use Rattle.constants.specs.Services.{code_of}
 use Rattle.constants.specs.declared.services.ServiceType.TheVariants.{TunnellingRequest, TunnellingAck}
@@ -56,7 +54,7 @@ module _ (f : Form) where
       go : (a b : Bool)
           → cond a (request_in body total) (cond b (ack_in f body) (Refused not_for_tunnels))
           ≡ heard_or
-          (stands_at (cond (cond a false (cond b false true)) (Refuse NotForTunnels) (verdict (cond a (Connection.checks (length body)) (AckForm.checks (form_by f) (length body)))))
+          (stands_at (cond (cond a false (cond b false true)) (Err NotForTunnels) (verdict (cond a (Connection.checks (length body)) (AckForm.checks (form_by f) (length body)))))
           (get_or (2 ∷ moved header_size (cond a (Connection.offsets (length body)) (AckForm.offsets (form_by f) (length body))))
           (cond (cond a false (cond b false true)) 0 (suc (place (cond a (Connection.checks (length body)) (AckForm.checks (form_by f) (length body)))))) 0))
           (cond a (request_of (Connection.values_in (get Connection.fields 0 body)) total) (ack_of (AckForm.values_in (form_by f) (get (form_by f).fields 0 body))))
@@ -69,8 +67,8 @@ module _ (f : Form) where
       go false false = refl
 
   after : (v w : Standing) (h : Heard) → heard_or v (heard_or w h) ≡ heard_or (and_then v w) h
-  after Stands w h = refl
-  after (Falls e) w h = refl
+  after (Ok tt) w h = refl
+  after (Err e) w h = refl
 
   -- number and offset are those of the first broken check of the whole list
   pub by_one_list : (s : List ℕ) → heard_in f s ≡ heard_or (standing (checks s) (offsets s)) (heard_of (service_in (get fields 0 s)) (total_in (get fields 0 s)) (body_in s))

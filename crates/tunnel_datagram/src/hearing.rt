@@ -7,11 +7,9 @@ ghost use Rattle.tunnel_datagram.specs.Hearing.{in_frame, request_in, ack_in, He
 ghost use Rattle.constants.specs.Services.{code_of};
 
 use constants::ServiceType;
-use frame::{FrameAnswer, FrameFields};
+use frame::FrameFields;
 use header::KnxnetIpHeader;
-use tunnelling::{
-    Form, TunnelingAck, TunnelingAckAnswer, TunnelingRequest, TunnelingRequestAnswer,
-};
+use tunnelling::{Form, TunnelingAck, TunnelingRequest};
 use wire::{Fault, Refusal};
 
 // Where the cEMI frame of a request starts: behind the header and the connection header.
@@ -39,8 +37,8 @@ pub fn hear_in(form: Form, bytes: &[u8]) -> Heard
     ensures { HearInPromise form bytes.now result }
 {
     match FrameFields::parse(bytes) {
-        FrameAnswer::Frame(frame) => in_frame(form, frame, bytes),
-        FrameAnswer::Refused(fault) => Heard::Refused(fault),
+        Ok(frame) => in_frame(form, frame, bytes),
+        Err(fault) => Heard::Refused(fault),
     }
 }
 
@@ -72,12 +70,12 @@ fn in_request(body: &[u8], end: usize) -> Heard
     ensures { result ≡ request_in body.now end }
 {
     match TunnelingRequest::parse(body) {
-        TunnelingRequestAnswer::Request(request) => Heard::Request {
+        Ok(request) => Heard::Request {
             channel: request.connection_header.channel_id,
             number: request.connection_header.sequence_counter,
             end,
         },
-        TunnelingRequestAnswer::Refused(fault) => Heard::Refused(in_body(fault)),
+        Err(fault) => Heard::Refused(in_body(fault)),
     }
 }
 
@@ -85,12 +83,12 @@ fn in_ack(form: Form, body: &[u8]) -> Heard
     ensures { result ≡ ack_in form body.now }
 {
     match TunnelingAck::parse_in(form, body) {
-        TunnelingAckAnswer::Ack(ack) => Heard::Ack {
+        Ok(ack) => Heard::Ack {
             channel: ack.connection_header.channel_id,
             number: ack.connection_header.sequence_counter,
             status: ack.status,
         },
-        TunnelingAckAnswer::Refused(fault) => Heard::Refused(in_body(fault)),
+        Err(fault) => Heard::Refused(in_body(fault)),
     }
 }
 

@@ -1,9 +1,8 @@
 -- The byte image of a tunnel table: eight places of five bytes, what every value of every byte means, and what a call does to an image. Assumes nothing.
-use Rattle.std.specs.Prelude.{ℕ, zero, suc, ◌+◌, ◌≡◌, cond, List, [], ◌∷◌, ◌++◌, length, get_or, eqb, ltb}
+use Rattle.std.specs.Prelude.{ℕ, zero, suc, ◌+◌, ◌≡◌, cond, List, [], ◌∷◌, ◌++◌, length, get_or, eqb, ltb, Result}
 use Rattle.wire.specs.Layout.{Field, byte, put, get}
 use Rattle.wire.specs.Writing.{onto, WritePromise}
 use Rattle.wire.specs.declared.refusals.Refusal.TheVariants.{BufferTooSmall}
-use Rattle.wire.specs.declared.refusals.Written.{Written}
 use Rattle.tunnel.specs.Numbers.{wait_number, wait_of}
 use Rattle.tunnel_model.specs.Store.{step}
 use Rattle.tunnel_model.specs.Calls.{Call, Outcome, out_of, refuses}
@@ -13,6 +12,7 @@ use Rattle.tunnel_table.specs.declared.places.Hold.{Hold}
 use Rattle.tunnel_table.specs.declared.places.Hold.TheVariants.{Free, Held}
 use Rattle.tunnel_table.specs.declared.places.Place.{Place}
 use Rattle.tunnel_table.specs.declared.table.Table.{Table}
+use Rattle.wire.specs.declared.refusals.Refusal.{Refusal}
 
 -- ---- a place
 
@@ -67,7 +67,7 @@ abbrev pub UnpackPromise : List ℕ → Table → Type 0
 UnpackPromise image r = r.places ≡ unpacked image
 
 -- an image below 40 bytes (1); of a longer one the first 40 are written
-abbrev pub PackPromise : List Place → List ℕ → Written → List ℕ → Type 0
+abbrev pub PackPromise : List Place → List ℕ → Result ℕ Refusal → List ℕ → Type 0
 PackPromise l image r after = WritePromise (packed l) image r after
 
 -- ---- a call on an image

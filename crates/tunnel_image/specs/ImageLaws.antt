@@ -1,5 +1,5 @@
 -- Laws of `Image`: what was packed is unpacked again; a table is written place by place; a call on an image of 40 bytes or more is one step of the table that it holds. Assumes nothing.
-use Rattle.std.specs.Prelude.{ℕ, ◌+◌, ◌*◌, ◌<◌, ◌≤◌, ◌≡◌, refl, Bool, true, false, cond, List, [], ◌∷◌, ◌++◌, length, take, drop, get_or, eqb, ltb}
+use Rattle.std.specs.Prelude.{ℕ, ◌+◌, ◌*◌, ◌<◌, ◌≤◌, ◌≡◌, refl, Bool, true, false, cond, List, [], ◌∷◌, ◌++◌, length, take, drop, get_or, eqb, ltb, Result}
 use Rattle.std.proofs.Common.{add-one, arith, sym, ap, ◌∙◌, append_assoc, length-append, take-suc, take_all, length-take-le, lt-ltb, le-ltb, eqb-true}
 use Rattle.std.proofs.lemmas.Bool.{eqb-false}
 use Rattle.wire.specs.Told.{nowhere}
@@ -9,7 +9,6 @@ use Rattle.wire.specs.Writing.{onto}
 use Rattle.wire.specs.ToldLaws.{same}
 use Rattle.wire.specs.WritingLaws.{write_one}
 use Rattle.wire.specs.declared.refusals.Refusal.TheVariants.{BufferTooSmall}
-use Rattle.wire.specs.declared.refusals.Written.{Written}
 use Rattle.tunnel.specs.Numbers.{wait_back}
 use Rattle.tunnel.specs.declared.rules.Wait.{Wait}
 use Rattle.tunnel_model.specs.PlacesLaws.{step_long}
@@ -22,6 +21,7 @@ use Rattle.tunnel_table.specs.declared.places.Hold.{Hold}
 use Rattle.tunnel_table.specs.declared.places.Hold.TheVariants.{Free, Held}
 use Rattle.tunnel_table.specs.declared.places.Place.{Place}
 use Rattle.tunnel_image.specs.Image.{fields, values, hold_of, layout, packed, places_from, unpacked, UnpackPromise, PackPromise, packed_onto, step_in, on_image}
+use Rattle.wire.specs.declared.refusals.Refusal.{Refusal}
 
 -- ---- there and back
 
@@ -122,7 +122,7 @@ image_leaves image c = go (ltb (length image) 40)
     go true n = ((refusal-zeros (nowhere BufferTooSmall) n, refl), refl)
     go false n = ((table_leaves kind kind_laws (unpacked image) c n).0, at (eqb (step_in image c).0.0.number 0) refl n)
 
-pub pack_one : (l : List Place) (image : List ℕ) (r q : Written) (after later : List ℕ) → PackPromise l image r after → PackPromise l image q later → (r ≡ q) × (after ≡ later)
+pub pack_one : (l : List Place) (image : List ℕ) (r q : Result ℕ Refusal) (after later : List ℕ) → PackPromise l image r after → PackPromise l image q later → (r ≡ q) × (after ≡ later)
 pack_one l = write_one (packed l)
 
 pub unpack_one : (image : List ℕ) (r q : Table) → UnpackPromise image r → UnpackPromise image q → r ≡ q

@@ -5,7 +5,7 @@ ghost use Rattle.tunnel_image.specs.Image.{place_at, layout, UnpackPromise, Pack
 
 use tunnel::{Tunnel, Wait};
 use tunnel_table::{Hold, Place, Table};
-use wire::{Refusal, Written};
+use wire::Refusal;
 
 pub const SIZE: usize = 40;
 
@@ -27,18 +27,18 @@ pub fn unpack(image: &[u8]) -> Table
 }
 
 // The image of a table's places.
-pub fn pack(places: [Place; 8], image: &mut [u8]) -> Written
+pub fn pack(places: [Place; 8], image: &mut [u8]) -> Result<usize, Refusal>
     ensures { PackPromise places image.old result image.new }
 {
     if image.len() < SIZE {
-        return Written::Refused(Refusal::BufferTooSmall);
+        return Err(Refusal::BufferTooSmall);
     }
     let mut i = 0;
     while i < 8 {
         put_place(places[i], image, i * 5);
         i += 1;
     }
-    Written::Bytes(SIZE)
+    Ok(SIZE)
 }
 
 fn place_at(image: &[u8], at: usize) -> Place

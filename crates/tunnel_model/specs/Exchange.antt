@@ -1,5 +1,5 @@
 -- What one tunnel writes, another hears: a request that a send wrote, in either form; an acknowledgement that a delivery or a duplicate wrote, in the same form. Assumes nothing.
-use Rattle.std.specs.Prelude.{ℕ, ◌+◌, ◌≤◌, ◌≡◌, refl, Bool, true, false, cond, List, [], ◌∷◌, length, get_or}
+use Rattle.std.specs.Prelude.{ℕ, ◌+◌, ◌≤◌, ◌≡◌, refl, Bool, true, false, cond, List, [], ◌∷◌, length, get_or, Ok, Err}
 use Rattle.std.proofs.Common.{arith, sym, ap, subst, ◌∙◌}
 use Rattle.std.proofs.Math.Option.{some}
 use Rattle.wire.specs.Told.{done, verdict}
@@ -8,8 +8,7 @@ use Rattle.wire.specs.Parts.{part_of}
 use Rattle.wire.specs.Writing.{onto}
 use Rattle.wire.specs.declared.refusals.Refusal.{Refusal}
 use Rattle.wire.specs.declared.refusals.Refusal.TheVariants.{AwaitsAck}
-use Rattle.wire.specs.declared.refusals.Verdict.{Verdict}
-use Rattle.wire.specs.declared.refusals.Verdict.TheVariants.{Accept, Refuse}
+use Rattle.wire.specs.Told.{Verdict}
 use Rattle.tunnelling.specs.Request as TunnelingRequest
 use Rattle.tunnelling.specs.AckForm.{form_by}
 use Rattle.tunnelling.specs.AckForm as AckForm
@@ -34,8 +33,8 @@ unrefused true e out t a z = absurd (never_done e z)
 unrefused false e out t a z = refl
 
 accepted : (v : Verdict) (out : List ℕ) (t : Tunnel) (a : After) → (or_refused v out t a).0.0.number ≡ 0 → or_refused v out t a ≡ a
-accepted Accept out t a z = refl
-accepted (Refuse e) out t a z = absurd (never_done e z)
+accepted (Ok tt) out t a z = refl
+accepted (Err e) out t a z = absurd (never_done e z)
 
 -- ---- a send that was answered 0 wrote its request, which is heard
 

@@ -1,12 +1,11 @@
 -- The code's places as places of 01's table, and the search for one by its index. Assumes nothing.
-use Rattle.std.specs.Prelude.{ℕ, suc, ◌<◌, ◌≡◌, refl, Bool, cond, List, [], ◌∷◌}
+use Rattle.std.specs.Prelude.{ℕ, suc, ◌<◌, ◌≡◌, refl, Bool, cond, List, [], ◌∷◌, Option, Some, None}
 use Rattle.std.proofs.Common.{sym, ap}
 use Rattle.std.proofs.Math.Option.{Option, none, some}
 use Rattle.tunnel_model.specs.FirstLaws.{none_some}
 use Rattle.tunnel_model.specs.Places.{Kind, KindLaws, holds, free}
 use Rattle.tunnel.specs.Rules.{afresh}
 use Rattle.tunnel.specs.declared.rules.Tunnel.{Tunnel}
-use Rattle.tunnel.specs.declared.rules.Left.{Left}
 use Rattle.tunnel_table.specs.declared.places.Hold.{Hold}
 use Rattle.tunnel_table.specs.declared.places.Hold.TheVariants.{Free, Held}
 use Rattle.tunnel_table.specs.declared.places.Place.{Place}
@@ -45,9 +44,9 @@ kind_laws = record {
 }
 
 -- what a step leaves in its place
-abbrev pub left_in : ℕ → Left → Hold
-left_in b (Left.Open t) = Held b t
-left_in b Left.Closed = Free
+abbrev pub left_in : ℕ → Option Tunnel → Hold
+left_in b (Some t) = Held b t
+left_in b None = Free
 
 -- what is looked for
 abbrev pub passing : Wanted → Place → Bool

@@ -1,14 +1,12 @@
 -- What the calls on the table promise: 01's table of eight, made of the code's own places. Assumes nothing.
-use Rattle.std.specs.Prelude.{ℕ, ◌≡◌, List, [], ◌∷◌, length, set}
+use Rattle.std.specs.Prelude.{ℕ, ◌≡◌, List, [], ◌∷◌, length, set, Result, Ok, Err}
 use Rattle.std.proofs.Math.Option.{Option, none, some}
 use Rattle.wire.specs.Refusals.{number_of}
 use Rattle.wire.specs.Told.{Told, verdict}
 use Rattle.wire.specs.Writing.{onto, Writes}
 use Rattle.wire.specs.declared.refusals.Fault.{Fault}
 use Rattle.wire.specs.declared.refusals.Refusal.TheVariants.{NotOpen}
-use Rattle.wire.specs.declared.refusals.Verdict.{Verdict}
-use Rattle.wire.specs.declared.refusals.Verdict.TheVariants.{Accept, Refuse}
-use Rattle.wire.specs.declared.refusals.Written.{Written}
+use Rattle.wire.specs.Told.{Verdict}
 use Rattle.tunnelling.specs.AckForm.{form_by}
 use Rattle.tunnelling.specs.AckForm as AckForm
 use Rattle.tunnelling.specs.declared.form.Form.{Form}
@@ -33,6 +31,7 @@ use Rattle.tunnel_table.specs.declared.places.Place.{Place}
 use Rattle.tunnel_table.specs.declared.table.Table.{Table}
 use Rattle.tunnel_table.specs.declared.table.Called.{Called}
 use Rattle.tunnel_table.specs.declared.table.Reaction.{Reaction}
+use Rattle.wire.specs.declared.refusals.Refusal.{Refusal}
 
 abbrev pub told : Called → Told
 told r = record { number = r.number; values = said_of r.said ∷ r.written ∷ []; start = r.start; end = r.end; offset = r.offset }
@@ -83,7 +82,7 @@ HeardPromise t h out r after = called_as r after ≡ heard_on h out t.places
 abbrev pub AcknowledgementPromise : Table → ℕ → ℕ → ℕ → Called → Type 0
 AcknowledgementPromise t channel n status r = (out : List ℕ) → called_as r out ≡ on channel_offset channel (ack_rule n status out) out t.places
 
-abbrev pub AckPromise : Form → ℕ → ℕ → List ℕ → Written → List ℕ → Type 0
+abbrev pub AckPromise : Form → ℕ → ℕ → List ℕ → Result ℕ Refusal → List ℕ → Type 0
 AckPromise f channel n out r after = Writes (AckForm.build_checks (form_by f) (length out)) (ack f channel n) out r after
 
 -- an acknowledgement is written and the channel is put back, or there is no room for it
@@ -91,8 +90,8 @@ abbrev pub reaction_told : Reaction → ℕ → Told
 reaction_told x n = record { number = 0; values = said_of x.said ∷ n ∷ []; start = x.start; end = x.end; offset = 0 }
 
 abbrev pub reacted : Form → Verdict → Table → ℕ → ℕ → ℕ → Reaction → List ℕ → Outcome × List Place
-reacted f Accept t i b n x out = ((reaction_told x (length (ack f b n)), onto out (ack f b n)), set t.places i (record { hold = Held b x.tunnel }))
-reacted f (Refuse e) t i b n x out = (refuses e out, t.places)
+reacted f (Ok tt) t i b n x out = ((reaction_told x (length (ack f b n)), onto out (ack f b n)), set t.places i (record { hold = Held b x.tunnel }))
+reacted f (Err e) t i b n x out = (refuses e out, t.places)
 
 abbrev pub ReactPromise : Form → Table → ℕ → ℕ → ℕ → Reaction → List ℕ → Called → List ℕ → Type 0
 ReactPromise f t i b n x out r after = called_as r after ≡ reacted f (verdict (AckForm.build_checks (form_by f) (length out))) t i b n x out

@@ -1,5 +1,5 @@
 -- What the code's calls give, way out by way out, is what 01's table gives; no second answer. Assumes nothing.
-use Rattle.std.specs.Prelude.{ℕ, ◌≡◌, refl, true, false, List, [], ◌∷◌, length, get_or, set}
+use Rattle.std.specs.Prelude.{ℕ, ◌≡◌, refl, true, false, List, [], ◌∷◌, length, get_or, set, Ok, Err, Option, Some, None}
 use Rattle.std.proofs.Common.{sym, ap, ◌∙◌}
 use Rattle.std.proofs.Math.Option.{Option, none, some}
 use Rattle.wire.specs.Refusals.{number_of}
@@ -9,8 +9,7 @@ use Rattle.wire.specs.WritingLaws.{Wrote}
 use Rattle.wire.specs.declared.refusals.Refusal.{Refusal}
 use Rattle.wire.specs.declared.refusals.Fault.{Fault}
 use Rattle.wire.specs.declared.refusals.Refusal.TheVariants.{NotOpen, AlreadyOpen, TableFull, AwaitsAck}
-use Rattle.wire.specs.declared.refusals.Verdict.{Verdict}
-use Rattle.wire.specs.declared.refusals.Verdict.TheVariants.{Accept, Refuse}
+use Rattle.wire.specs.Told.{Verdict}
 use Rattle.tunnelling.specs.Request as TunnelingRequest
 use Rattle.tunnelling.specs.declared.form.Form.{Form}
 use Rattle.tunnel_datagram.specs.Hearing.{channel_offset, heard_in}
@@ -18,7 +17,6 @@ use Rattle.tunnel_datagram.specs.declared.hearing.Heard.{Heard}
 use Rattle.tunnel.specs.Rules.{afresh, waiting, sending_of}
 use Rattle.tunnel.specs.declared.rules.Tunnel.{Tunnel}
 use Rattle.tunnel.specs.declared.rules.Said.TheVariants as Said
-use Rattle.tunnel.specs.declared.rules.Left.{Left}
 use Rattle.tunnel.specs.declared.rules.Stepped.{Stepped}
 use Rattle.tunnel_model.specs.Firsts.{first_of}
 use Rattle.tunnel_model.specs.PlacesLaws.{put_held}
@@ -77,9 +75,9 @@ module _ (T : Table) (b : ℕ) (missing : seek (holds kind b) 0 T.places ≡ Not
 
 -- ---- where it has place i
 
-left-placed : (b : ℕ) (x : Left) → record { hold = left_in b x } ≡ placed kind b (left x)
-left-placed b (Left.Open t) = refl
-left-placed b Left.Closed = refl
+left-placed : (b : ℕ) (x : Option Tunnel) → record { hold = left_in b x } ≡ placed kind b (left x)
+left-placed b (Some t) = refl
+left-placed b None = refl
 
 module _ (T : Table) (b i : ℕ) (d : Place) (found : seek (holds kind b) 0 T.places ≡ At i) (t : Tunnel) (is : t ≡ tunnel_in (get_or T.places i d).hold) where
   at : Stands (holds kind b) T.places d i
@@ -111,8 +109,8 @@ module _ (T : Table) (b i : ℕ) (d : Place) (found : seek (holds kind b) 0 T.pl
   -- an acknowledgement, or no room for one
   pub at_react : (k : ℕ) (form : Form) (v : Verdict) (n : ℕ) (x : Reaction) (f : Tunnel → After) (out : List ℕ)
       → f t ≡ or_refused v out t ((reaction_told x (length (ack form b n)), onto out (ack form b n)), some x.tunnel) → reacted form v T i b n x out ≡ on k b f out T.places
-  at_react k form Accept n x f out e = ap (λ (a : After). (a.0, set T.places i (placed kind b a.1))) (sym e) ∙ rule k f out
-  at_react k form (Refuse w) n x f out e = at_kept k f out (saying T (number_of w) Said.Nothing) out e refl
+  at_react k form (Ok tt) n x f out e = ap (λ (a : After). (a.0, set T.places i (placed kind b a.1))) (sym e) ∙ rule k f out
+  at_react k form (Err w) n x f out e = at_kept k f out (saying T (number_of w) Said.Nothing) out e refl
 
   -- a step of the rules
   pub at-step : (k : ℕ) (f : Tunnel → After) (out : List ℕ) (s : Stepped) → f t ≡ stepped s out
@@ -144,9 +142,9 @@ module _ (t : Tunnel) (b : ℕ) (cemi out : List ℕ) where
   pub awaits : waiting t.w ≡ true → send_of t b cemi out ≡ (refuses AwaitsAck out, some t)
   awaits w = rw w
 
-  pub sends : waiting t.w ≡ false → verdict (TunnelingRequest.build_checks (length cemi) (length out)) ≡ Accept
+  pub sends : waiting t.w ≡ false → verdict (TunnelingRequest.build_checks (length cemi) (length out)) ≡ Ok tt
       → send_of t b cemi out ≡ ((done (said_of Said.Nothing ∷ length (request b t.s cemi) ∷ []), onto out (request b t.s cemi)), some (sending_of t))
   sends w q = rw (w, q)
 
-  pub sends_not : (e : Refusal) → waiting t.w ≡ false → verdict (TunnelingRequest.build_checks (length cemi) (length out)) ≡ Refuse e → send_of t b cemi out ≡ (refuses e out, some t)
+  pub sends_not : (e : Refusal) → waiting t.w ≡ false → verdict (TunnelingRequest.build_checks (length cemi) (length out)) ≡ Err e → send_of t b cemi out ≡ (refuses e out, some t)
   sends_not e w q = rw (w, q)

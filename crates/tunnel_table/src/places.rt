@@ -3,7 +3,7 @@ ghost use Rattle.std.specs.Prelude.{◌≡◌};
 ghost use Rattle.tunnel_model.specs.Places.{holds, free};
 ghost use Rattle.tunnel_table.specs.Places.{kind, tunnel_in, left_in, passing, seek, Below};
 
-use tunnel::{Left, Tunnel};
+use tunnel::Tunnel;
 
 #[derive(Clone, Copy)]
 pub enum Hold {
@@ -92,11 +92,11 @@ pub(crate) fn tunnel_in(p: Place) -> Tunnel
 }
 
 // What a place holds after a step of its channel.
-pub(crate) fn left_in(id: u8, left: Left) -> Hold
+pub(crate) fn left_in(id: u8, left: Option<Tunnel>) -> Hold
     ensures { result ≡ left_in id left }
 {
     match left {
-        Left::Open(tunnel) => Hold::Held { id, tunnel },
-        Left::Closed => Hold::Free,
+        Some(tunnel) => Hold::Held { id, tunnel },
+        None => Hold::Free,
     }
 }

@@ -12,7 +12,7 @@ use crate::places::{Found, Hold, Place, Wanted};
 use tunnel::{Arrival, Said, Stepped, Tunnel};
 use tunnel_datagram::{CEMI_START, CHANNEL_OFFSET, Heard};
 use tunnelling::{ConnectionHeader, Form, TunnelingAck, TunnelingRequest};
-use wire::{Fault, Refusal, Written};
+use wire::{Fault, Refusal};
 
 #[derive(Clone, Copy)]
 pub struct Table {
@@ -101,7 +101,7 @@ impl Table {
                 }
                 let header = ConnectionHeader::new(id, tunnel.s);
                 match TunnelingRequest::new(header).build(cemi, out) {
-                    Written::Bytes(written) => {
+                    Ok(written) => {
                         let sending = tunnel.sending();
                         let table = self.put(
                             i,
@@ -120,7 +120,7 @@ impl Table {
                             table,
                         }
                     }
-                    Written::Refused(why) => self.refuse(why),
+                    Err(why) => self.refuse(why),
                 }
             }
         }
@@ -218,7 +218,7 @@ impl Table {
         let said = reaction.said;
         let tunnel = reaction.tunnel;
         match write_ack(form, channel, number, out) {
-            Written::Bytes(written) => {
+            Ok(written) => {
                 let table = self.put(
                     i,
                     Hold::Held {
@@ -236,7 +236,7 @@ impl Table {
                     table,
                 }
             }
-            Written::Refused(why) => self.refuse(why),
+            Err(why) => self.refuse(why),
         }
     }
 
@@ -314,7 +314,7 @@ impl Table {
 }
 
 // The acknowledgement of a request, with status 0.
-fn write_ack(form: Form, channel: u8, number: u8, out: &mut [u8]) -> Written
+fn write_ack(form: Form, channel: u8, number: u8, out: &mut [u8]) -> Result<usize, Refusal>
     ensures { AckPromise form channel number out.old result out.new }
 {
     let header = ConnectionHeader::new(channel, number);

@@ -1,10 +1,9 @@
 -- What an acknowledgement is on the wire, as one record of definitions, with its two instances: 01's, which is the crate's, and KNX's own (03_08_04). What does not depend on them is proved over any such record. Assumes nothing.
-use Rattle.std.specs.Prelude.{ℕ, ◌+◌, ◌≡◌, refl, List, [], ◌∷◌, ◌++◌, length, get_or}
+use Rattle.std.specs.Prelude.{ℕ, ◌+◌, ◌≡◌, refl, List, [], ◌∷◌, ◌++◌, length, get_or, Result}
 use Rattle.wire.specs.Told.{Told, Check}
 use Rattle.wire.specs.Writing.{Writes, room}
 use Rattle.wire.specs.Layout.{Field, size, put}
 use Rattle.wire.specs.Format.{Format, checks_of, offsets_of, read_where}
-use Rattle.wire.specs.declared.refusals.Written.{Written}
 use Rattle.constants.specs.Constants.{header_size}
 use Rattle.constants.specs.declared.services.ServiceType.TheVariants.{TunnellingAck}
 use Rattle.frame.specs.Write.{frame}
@@ -13,7 +12,8 @@ use Rattle.tunnelling.specs.Ack as TunnelingAck
 use Rattle.tunnelling.specs.declared.form.Form.{Form}
 use Rattle.tunnelling.specs.declared.form.Form.TheVariants.{Crate, Standard}
 use Rattle.tunnelling.specs.declared.ack.TunnelingAck.{TunnelingAck}
-use Rattle.tunnelling.specs.declared.ack.TunnelingAckAnswer.{TunnelingAckAnswer}
+use Rattle.wire.specs.declared.refusals.Fault.{Fault}
+use Rattle.wire.specs.declared.refusals.Refusal.{Refusal}
 
 pub record AckForm : Type 0 where
   -- the fields of its body
@@ -78,8 +78,8 @@ module _ (F : AckForm) where
   abbrev pub parsed : List ℕ → Told
   parsed s = read_where format s
 
-abbrev pub BuildInPromise : Form → TunnelingAck → List ℕ → Written → List ℕ → Type 0
+abbrev pub BuildInPromise : Form → TunnelingAck → List ℕ → Result ℕ Refusal → List ℕ → Type 0
 BuildInPromise f a b r after = Writes (build_checks (form_by f) (length b)) (frame TunnellingAck (layout (form_by f) a)) b r after
 
-abbrev pub ParseInPromise : Form → List ℕ → TunnelingAckAnswer → Type 0
+abbrev pub ParseInPromise : Form → List ℕ → Result TunnelingAck Fault → Type 0
 ParseInPromise f s r = TunnelingAck.told r ≡ parsed (form_by f) s

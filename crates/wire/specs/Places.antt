@@ -1,11 +1,7 @@
 -- Which check of a list decided, and what stands beside it: the place of the first that is broken, and in a list of their own the offsets of the fields that the checks look at. Assumes nothing.
-use Rattle.std.specs.Prelude.{ℕ, zero, suc, ◌+◌, ◌≤◌, ◌≡◌, Bool, false, cond, List, [], ◌∷◌, ◌++◌, length, get_or}
-use Rattle.wire.specs.Told.{Told, Check, ◌⇒◌, verdict}
+use Rattle.std.specs.Prelude.{ℕ, zero, suc, ◌+◌, ◌≤◌, ◌≡◌, Bool, false, cond, List, [], ◌∷◌, ◌++◌, length, get_or, Result, Ok, Err}
+use Rattle.wire.specs.Told.{Told, Check, ◌⇒◌, Verdict, verdict}
 use Rattle.wire.specs.declared.refusals.Fault.{Fault}
-use Rattle.wire.specs.declared.refusals.Verdict.{Verdict}
-use Rattle.wire.specs.declared.refusals.Verdict.TheVariants.{Accept, Refuse}
-use Rattle.wire.specs.declared.refusals.Standing.{Standing}
-use Rattle.wire.specs.declared.refusals.Standing.TheVariants.{Stands, Falls}
 
 -- the place of the first broken check; how many there are, where all hold
 abbrev pub place : List Check → ℕ
@@ -19,8 +15,8 @@ broken_at (broken ⇒ e ∷ cs) zero = broken
 broken_at (broken ⇒ e ∷ cs) (suc i) = broken_at cs i
 
 abbrev pub verdict_at : List Check → ℕ → Verdict
-verdict_at [] i = Accept
-verdict_at (broken ⇒ e ∷ cs) zero = Refuse e
+verdict_at [] i = Ok tt
+verdict_at (broken ⇒ e ∷ cs) zero = Err e
 verdict_at (broken ⇒ e ∷ cs) (suc i) = verdict_at cs i
 
 -- what stands beside the check that decided, in a list with an entry for each check; d where all hold
@@ -38,10 +34,14 @@ at o t = record { number = t.number; values = t.values; start = t.start; end = t
 abbrev pub located : List Check → List ℕ → Told → Told
 located cs os t = at (offset_by cs os) t
 
+-- what a parser's checks say: all hold, or the first that is broken refuses, at its field
+abbrev pub Standing : Type 0
+Standing = Result (Unit {0}) Fault
+
 -- a verdict with its offset, and what the checks say with the offset of the one that decided
 abbrev pub stands_at : Verdict → ℕ → Standing
-stands_at Accept o = Stands
-stands_at (Refuse e) o = Falls (record { why = e; at = o })
+stands_at (Ok tt) o = Ok tt
+stands_at (Err e) o = Err (record { why = e; at = o })
 
 abbrev pub standing : List Check → List ℕ → Standing
 standing cs os = stands_at (verdict cs) (offset_by cs os)
@@ -56,13 +56,13 @@ abbrev pub later_fault : ℕ → Fault → Fault
 later_fault k f = record { why = f.why; at = k + f.at }
 
 abbrev pub later : ℕ → Standing → Standing
-later k Stands = Stands
-later k (Falls f) = Falls (later_fault k f)
+later k (Ok tt) = Ok tt
+later k (Err f) = Err (later_fault k f)
 
 -- the whole: what stands before the part, then the part
 abbrev pub and_then : Standing → Standing → Standing
-and_then Stands t = t
-and_then (Falls f) t = Falls f
+and_then (Ok tt) t = t
+and_then (Err f) t = Err f
 
 -- a reader of a part: where the part starts, its checks, and an offset beside each
 pub record Reader : Type 0 where
@@ -82,7 +82,7 @@ all_offsets (r ∷ rs) = moved r.start r.offsets ++ all_offsets rs
 
 -- and what they say one after another, each moved by its start
 abbrev pub says_all : List Reader → Standing
-says_all [] = Stands
+says_all [] = Ok tt
 says_all (r ∷ rs) = and_then (later r.start (standing r.checks r.offsets)) (says_all rs)
 
 -- every offset of a list is at most m

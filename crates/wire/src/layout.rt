@@ -1,8 +1,6 @@
 // Bytes and big-endian numbers of a slice, and copying into a lent one: total, so that a caller asks no index.
 ghost use Rattle.wire.specs.Layout.{WordPromise, HighPromise, LowPromise, ByteAtPromise, WordAtPromise, CopyPromise};
 
-use crate::copying::copy_all;
-
 // The number of two bytes, the high one first.
 pub fn word(first: u8, second: u8) -> u16
     ensures { WordPromise first second result }
@@ -50,5 +48,5 @@ pub fn copy_at(src: &[u8], dst: &mut [u8], at: usize)
     if dst.len() - at < src.len() {
         return;
     }
-    copy_all(src, dst, at);
+    dst[at..at + src.len()].copy_from_slice(src);
 }

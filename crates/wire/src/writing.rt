@@ -1,36 +1,35 @@
 // What records are written by: one piece, or three one behind another.
 ghost use Rattle.wire.specs.Writing.{WritePromise, Write3Promise};
 
-use crate::copying::copy_all;
 use crate::layout::copy_at;
-use crate::refusals::{Refusal, Written};
+use crate::refusals::Refusal;
 
 // Writes all of bytes at the start of buf.
-pub fn write(bytes: &[u8], buf: &mut [u8]) -> Written
+pub fn write(bytes: &[u8], buf: &mut [u8]) -> Result<usize, Refusal>
     ensures { WritePromise bytes.now buf.old result buf.new }
 {
     if buf.len() < bytes.len() {
-        return Written::Refused(Refusal::BufferTooSmall);
+        return Err(Refusal::BufferTooSmall);
     }
-    copy_all(bytes, buf, 0);
-    Written::Bytes(bytes.len())
+    buf[..bytes.len()].copy_from_slice(bytes);
+    Ok(bytes.len())
 }
 
 // Writes three pieces, one behind another, at the start of buf. Their lengths are asked without a sum that could wrap.
-pub fn write3(a: &[u8], b: &[u8], c: &[u8], buf: &mut [u8]) -> Written
+pub fn write3(a: &[u8], b: &[u8], c: &[u8], buf: &mut [u8]) -> Result<usize, Refusal>
     ensures { Write3Promise a.now b.now c.now buf.old result buf.new }
 {
     if buf.len() < a.len() {
-        return Written::Refused(Refusal::BufferTooSmall);
+        return Err(Refusal::BufferTooSmall);
     }
     if buf.len() - a.len() < b.len() {
-        return Written::Refused(Refusal::BufferTooSmall);
+        return Err(Refusal::BufferTooSmall);
     }
     if buf.len() - a.len() - b.len() < c.len() {
-        return Written::Refused(Refusal::BufferTooSmall);
+        return Err(Refusal::BufferTooSmall);
     }
     copy_at(a, buf, 0);
     copy_at(b, buf, a.len());
     copy_at(c, buf, a.len() + b.len());
-    Written::Bytes(a.len() + b.len() + c.len())
+    Ok(a.len() + b.len() + c.len())
 }

@@ -1,4 +1,5 @@
 -- One law of `CemiLaws` for each way out; a refusal of L_Data is moved by where it starts. Assumes nothing.
+use Rattle.std.specs.Prelude.{Err}
 use Rattle.std.proofs.Common.{ℕ, ◌+◌, ap, sym, ◌∙◌, arith, not, length}
 use Rattle.wire.specs.Parts.{part_of}
 use Rattle.wire.specs.Places.{later_fault}
@@ -6,7 +7,6 @@ use Rattle.wire.specs.PlaceLaws.{stands-accepted}
 use Rattle.wire.specs.PartLaws.{part_most}
 use Rattle.ldata.specs.Count.{count_by}
 use Rattle.ldata.specs.LData.{told, parse_where}
-use Rattle.ldata.specs.declared.ldata.LDataAnswer.TheVariants.{Refused}
 use Rattle.cemi.specs.Cemi.{checks, offsets, info_length, service_info}
 use Rattle.cemi.specs.CemiLaws.{too_short, long_enough, no_cemi, no_ldata, no_info, on-rest, off_rest, rest_within}
 use Rattle.cemi.proofs.CEMIFrame.as_ldata_in.Goals as goal
@@ -50,7 +50,7 @@ returns-in-Refused c =
     let held = stands-accepted (checks s) (offsets s) (sym c.in-Stands.ensures) in
     let this = ap not (sym c.is_ldata.ensures ∙ c.if-not-is_ldata.false) in
     let enough = long_enough s c.byte_at.result c.byte_at.ensures c.if-data-start.false in
-    ap (λ (k : ℕ). told (Refused (later_fault (2 + k) c.in-Refused.fault))) c.byte_at.ensures
+    ap (λ (k : ℕ). told (Err (later_fault (2 + k) c.in-Refused.fault))) c.byte_at.ensures
     ∙ off_rest C c.args.self s held this enough c.in-Refused.fault (c.in-Refused.ensures ∙ ap (parse_where C) rest)
 
 pub returns-in-Falls : goal.returns-in-Falls

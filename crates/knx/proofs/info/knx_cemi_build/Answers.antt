@@ -1,5 +1,5 @@
 -- The number is asked first. Assumes nothing.
-use Rattle.wire.specs.declared.refusals.Written.TheVariants.{Refused}
+use Rattle.std.specs.Prelude.{Err}
 use Rattle.knx.specs.InfoLaws.{code_known, code_unknown}
 use Rattle.knx.proofs.info.knx_cemi_build.Goals as goal
 
@@ -18,7 +18,7 @@ returns-in-Refused c =
     let a = c.args in
     let e = c.in-Refused.fault in
     record {
-      answer = Refused e.why;
+      answer = Err e.why;
       keeps = code_unknown a.message_code a.additional_info.now a.service_info.now a.out.now e c.in-Refused.ensures;
       tells = c.written-in-Refused.ensures;
     }

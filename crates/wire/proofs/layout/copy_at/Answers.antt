@@ -1,6 +1,7 @@
 -- What fits is pasted whole; what does not fit is seen by the same sum. Assumes nothing.
-use Rattle.std.proofs.Common.{ℕ, ◌+◌, List, ◌++◌, ap, ◌∙◌, arith, le-leb, length, take, drop}
+use Rattle.std.proofs.Common.{ℕ, ◌+◌, List, ◌++◌, refl, ap, ◌∙◌, arith, le-leb, length, take, drop}
 use borrow.Author.Tests.{lt-leb}
+use Rattle.std.proofs.lemmas.Slice.{put_mid-paste}
 use Rattle.std.proofs.Math.Seq.{take-length}
 use Rattle.wire.proofs.layout.copy_at.Goals as goal
 
@@ -20,5 +21,5 @@ returns c =
     let src : List ℕ = a.src.now in
     let dst : List ℕ = a.dst.now in
     simp (le-leb (a.at + length src) (length dst) (omega arith))
-    (c.copy_all.ensures
+    (put_mid-paste a.at _ dst c.copy_from_slice.new.self src (length src) c.copy_from_slice.ensures.after (omega arith) refl
     ∙ ap (λ (l : List ℕ). take a.at dst ++ l ++ drop (a.at + length src) dst) (take-length src))

@@ -1,6 +1,5 @@
 -- `write` keeps its contract. Assumes nothing.
-use Rattle.std.proofs.Common.{◌∙◌, lt-ltb, le-ltb}
-use Rattle.wire.specs.LayoutLaws.{paste_front}
+use Rattle.std.proofs.Common.{ℕ, List, ◌++◌, ap, drop, length, lt-ltb, le-ltb}
 use Rattle.wire.proofs.writing.write.Goals as goal
 
 pub returns-then-buf-bytes : goal.returns-then-buf-bytes
@@ -10,4 +9,4 @@ returns-then-buf-bytes c =
 pub returns : goal.returns
 returns c =
     let a = c.args in
-    let h = le-ltb _ _ c.if-buf-bytes.false in (simp h, simp h (c.copy_all.ensures ∙ paste_front a.buf.now a.bytes.now))
+    let h = le-ltb _ _ c.if-buf-bytes.false in (simp h, simp h (ap (λ (l : List ℕ). l ++ drop (length a.bytes.now) a.buf.now) c.copy_from_slice.ensures.after))

@@ -1,4 +1,5 @@
 -- One law of `TableLaws` for each way out. Assumes nothing.
+use Rattle.std.specs.Prelude.{Ok, Err}
 use Rattle.std.proofs.Common.{ℕ, arith, refl, ap, sym, subst, ◌∙◌, List, [], ◌∷◌, length}
 use mathlib.Core.Option.{some}
 use Rattle.wire.specs.Refusals.{number_of}
@@ -17,7 +18,6 @@ use Rattle.tunnel_model.specs.Lone.{request, lone}
 use Rattle.tunnel_table.specs.Table.{called_as, saying}
 use Rattle.tunnel_table.specs.TableLaws.{step-on, at_none, at-put, at_kept, written_as, awaits, sends, sends_not}
 use Rattle.tunnel_table.specs.declared.table.Called.{Called}
-use Rattle.wire.specs.declared.refusals.Written.TheVariants.{Bytes, Refused}
 use Rattle.tunnel_table.proofs.table.Table.send.Goals as goal
 
 pub offset_bounds-places-i : goal.offset_bounds-places-i
@@ -62,7 +62,7 @@ returns-in-Bytes c =
     let after = c.build.new.buf in
     let made = c.new.ensures ∙ ap (λ (h : ConnectionHeader). record { connection_header = h }) c.new-header.ensures in
     let k = c.in-Bytes.written in
-    let x = subst (λ (q : TunnelingRequest). BuildPromise q cemi out (Bytes k) after) made c.in-Bytes.ensures in
+    let x = subst (λ (q : TunnelingRequest). BuildPromise q cemi out (Ok k) after) made c.in-Bytes.ensures in
     let w = request a.id t.s cemi in
     let cs = build_checks (length cemi) (length out) in
     let said : ℕ → Told = λ k. done (said_of Nothing ∷ k ∷ []) in
@@ -84,7 +84,7 @@ returns-in-Refused c =
     let after = c.build.new.buf in
     let made = c.new.ensures ∙ ap (λ (h : ConnectionHeader). record { connection_header = h }) c.new-header.ensures in
     let e = c.in-Refused.why in
-    let x = subst (λ (q : TunnelingRequest). BuildPromise q cemi out (Refused e) after) made c.in-Refused.ensures in
+    let x = subst (λ (q : TunnelingRequest). BuildPromise q cemi out (Err e) after) made c.in-Refused.ensures in
     let w = request a.id t.s cemi in
     let cs = build_checks (length cemi) (length out) in
     let unwritten = was_unwritten cs w out e after x in
