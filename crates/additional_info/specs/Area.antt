@@ -9,7 +9,6 @@ use Rattle.additional_info.specs.InfoType.{type_of}
 use Rattle.additional_info.specs.InfoType as InfoType
 use Rattle.additional_info.specs.declared.info_type.AdditionalInfoType.{AdditionalInfoType}
 use Rattle.additional_info.specs.declared.area.AdditionalInfo.{AdditionalInfo}
-use Rattle.additional_info.specs.declared.area.AdditionalInfoAnswer.{AdditionalInfoAnswer}
 use Rattle.additional_info.specs.declared.area.Walked.{Walked}
 use Rattle.wire.specs.declared.refusals.Fault.{Fault}
 
@@ -68,7 +67,7 @@ abbrev pub offsets : List ℕ
 offsets = 0 ∷ 0 ∷ []
 
 abbrev pub accepts : Verdict → Bool
-accepts (Ok tt) = true
+accepts (Ok _) = true
 accepts (Err e) = false
 
 -- a record stands at the front; of an empty area none does
@@ -141,10 +140,10 @@ told_record r = record {
 abbrev pub nothing : Told
 nothing = done (0 ∷ 0 ∷ 0 ∷ 0 ∷ 0 ∷ [])
 
-abbrev pub told : AdditionalInfoAnswer → Told
-told (AdditionalInfoAnswer.Record r) = told_record r
-told AdditionalInfoAnswer.None = nothing
-told (AdditionalInfoAnswer.Refused e) = refused 5 e
+abbrev pub told : Result (Option AdditionalInfo) Fault → Told
+told (Ok (Some r)) = told_record r
+told (Ok None) = nothing
+told (Err e) = refused 5 e
 
 -- the record at the front of s, which starts at a place of the area
 abbrev pub record_by02 : ℕ → List ℕ → Told
@@ -164,7 +163,7 @@ parse_by02 s = cond (eqb (length s) 0) nothing (judged (checks s) (record_by02 0
 abbrev pub parse_where : List ℕ → Told
 parse_where s = located (checks s) offsets (parse_by02 s)
 
-abbrev pub ParsePromise : List ℕ → AdditionalInfoAnswer → Type 0
+abbrev pub ParsePromise : List ℕ → Result (Option AdditionalInfo) Fault → Type 0
 ParsePromise s r = told r ≡ parse_where s
 
 abbrev pub told_count : Result ℕ Fault → Told
@@ -190,17 +189,14 @@ nth_by02 s n = judged (area_check s ∷ []) (nth_in s n)
 abbrev pub nth_where : List ℕ → ℕ → Told
 nth_where s n = located (area_check s ∷ []) (area_offsets s) (nth_by02 s n)
 
-abbrev pub NthPromise : List ℕ → ℕ → AdditionalInfoAnswer → Type 0
+abbrev pub NthPromise : List ℕ → ℕ → Result (Option AdditionalInfo) Fault → Type 0
 NthPromise s n r = told r ≡ nth_where s n
 
 -- ---- the code's parts
 
-abbrev pub taken : List ℕ → ℕ
-taken s = cond (stands s) (end_of s) 0
-
--- how many records one walk is asked for, where n are left
-abbrev pub at_most : ℕ → ℕ
-at_most n = cond (ltb n 8) n 8
+-- how many bytes the record at the front takes, where one stands
+abbrev pub taken : List ℕ → Option ℕ
+taken s = cond (stands s) (Some (end_of s)) None
 
 abbrev pub TimestampPromise : ℕ → List ℕ → Option ℕ → Type 0
 TimestampPromise code «data» r = r ≡ timestamp_of (record { code = code; «data» = «data» })

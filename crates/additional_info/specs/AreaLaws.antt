@@ -19,7 +19,6 @@ use Rattle.additional_info.specs.Area.{Info, layout, Readable, code_in, length_i
 use Rattle.additional_info.specs.WalkLaws.{all-taken, behind_is, ended, fills_one, front_is, info-first, is_readable, one_more, passes, readable_passes, records_add, records-most, records-on, refuses, stands-first, stood}
 use Rattle.additional_info.specs.declared.info_type.AdditionalInfoType.{AdditionalInfoType}
 use Rattle.additional_info.specs.declared.area.AdditionalInfo.{AdditionalInfo}
-use Rattle.additional_info.specs.declared.area.AdditionalInfoAnswer.{AdditionalInfoAnswer}
 
 -- ---- where it was refused
 
@@ -63,7 +62,7 @@ record_shows s at r p h =
     cc
 
 -- the record at the front, and what remains behind its end, are the area
-pub parse_shows : (s : List ℕ) (r : AdditionalInfo) → ParsePromise s (AdditionalInfoAnswer.Record r) → layout (shown_in s r) ++ drop r.end s ≡ s
+pub parse_shows : (s : List ℕ) (r : AdditionalInfo) → ParsePromise s (Ok (Some r)) → layout (shown_in s r) ++ drop r.end s ≡ s
 parse_shows s r p = go (eqb (length s) 0) refl (p ∙ first_where s)
   where
     go : (b : Bool) → eqb (length s) 0 ≡ b → told_record r ≡ cond b nothing (judged (checks s) (record_by02 0 s)) → layout (shown_in s r) ++ drop r.end s ≡ s
@@ -87,7 +86,7 @@ reads_back i rest =
     ∙ ap (λ (e : ℕ). record { number = 0; values = values_of (type_of i.code) (timestamp_of i); start = 2; end = e; offset = 0 }) zero-end)
 
 -- the record handed out for n is the one that stands behind n others
-pub nth_shows : (s : List ℕ) (n : ℕ) (r : AdditionalInfo) → NthPromise s n (AdditionalInfoAnswer.Record r) → drop n (all_in s) ≡ shown_in s r ∷ drop (n + 1) (all_in s)
+pub nth_shows : (s : List ℕ) (n : ℕ) (r : AdditionalInfo) → NthPromise s n (Ok (Some r)) → drop n (all_in s) ≡ shown_in s r ∷ drop (n + 1) (all_in s)
 nth_shows s n r p = go (ltb n (length (all_in s))) refl (let_through (area_check s ∷ []) (nth_in s n) (told_record r) refl p)
   where
     go : (b : Bool) → ltb n (length (all_in s)) ≡ b → told_record r ≡ at 0 (cond b (record_by02 (place_of n s) (behind n s)) nothing) → drop n (all_in s) ≡ shown_in s r ∷ drop (n + 1) (all_in s)
@@ -117,31 +116,31 @@ unfolding timestamp_from
 timestamp_back (Some n) = refl
 timestamp_back None = refl
 
-abbrev record_from : AdditionalInfoType → Option ℕ → ℕ → ℕ → AdditionalInfoAnswer
-record_from t x start end = AdditionalInfoAnswer.Record (record { info_type = t; timestamp = x; start = start; end = end })
+abbrev record_from : AdditionalInfoType → Option ℕ → ℕ → ℕ → Result (Option AdditionalInfo) Fault
+record_from t x start end = Ok (Some (record { info_type = t; timestamp = x; start = start; end = end }))
 
-abbrev answer_from : Told → AdditionalInfoAnswer
+abbrev answer_from : Told → Result (Option AdditionalInfo) Fault
 answer_from t =
     cond (eqb t.number 0)
     (cond (eqb (get_or t.values 0 0) 1)
     (record_from (type_from (get_or t.values 1 0) (get_or t.values 2 0)) (timestamp_from (get_or t.values 3 0) (get_or t.values 4 0)) t.start t.end)
-    AdditionalInfoAnswer.None)
-    (AdditionalInfoAnswer.Refused (record { why = refusal_of t.number; at = t.offset }))
+    (Ok None))
+    (Err (record { why = refusal_of t.number; at = t.offset }))
 
-told_back : (r : AdditionalInfoAnswer) → answer_from (told r) ≡ r
-told_back (AdditionalInfoAnswer.Record r) =
+told_back : (r : Result (Option AdditionalInfo) Fault) → answer_from (told r) ≡ r
+told_back (Ok (Some r)) =
     ap (λ (t : AdditionalInfoType). record_from t (timestamp_from (valued_of r.timestamp) (value_of r.timestamp)) r.start r.end) (type_back r.info_type)
     ∙ ap (λ (x : Option ℕ). record_from r.info_type x r.start r.end) (timestamp_back r.timestamp)
-told_back AdditionalInfoAnswer.None = refl
-told_back (AdditionalInfoAnswer.Refused e) = simp (ne_eqb (number_of e.why) 0 (never_done e.why), (numbered e.why).back)
+told_back (Ok None) = refl
+told_back (Err e) = simp (ne_eqb (number_of e.why) 0 (never_done e.why), (numbered e.why).back)
 
-pub told_one : (r q : AdditionalInfoAnswer) → told r ≡ told q → r ≡ q
+pub told_one : (r q : Result (Option AdditionalInfo) Fault) → told r ≡ told q → r ≡ q
 told_one = one_to_one told answer_from told_back
 
-pub parse_one : (s : List ℕ) (r q : AdditionalInfoAnswer) → ParsePromise s r → ParsePromise s q → r ≡ q
+pub parse_one : (s : List ℕ) (r q : Result (Option AdditionalInfo) Fault) → ParsePromise s r → ParsePromise s q → r ≡ q
 parse_one s r q a b = told_one r q (same a b)
 
-pub nth_one : (s : List ℕ) (n : ℕ) (r q : AdditionalInfoAnswer) → NthPromise s n r → NthPromise s n q → r ≡ q
+pub nth_one : (s : List ℕ) (n : ℕ) (r q : Result (Option AdditionalInfo) Fault) → NthPromise s n r → NthPromise s n q → r ≡ q
 nth_one s n r q a b = told_one r q (same a b)
 
 abbrev count_of : List ℕ → Result ℕ Fault
@@ -176,7 +175,7 @@ module _ (s : List ℕ) where
   pub was_unfilled : (e : Fault) → CountPromise s (Err e) → unfilled s ≡ true
   was_unfilled e p = go (unfilled s) (falls_so (area_check s ∷ []) (area_offsets s) e (not_counted e p)).0
     where
-      go : (b : Bool) → cond b (Err InvalidAdditionalInfo) Ok tt ≡ Err e.why → b ≡ true
+      go : (b : Bool) → cond b (Err InvalidAdditionalInfo) (Ok (tt {0})) ≡ Err e.why → b ≡ true
       go true q = refl
       go false q = never cc
 

@@ -1,6 +1,7 @@
 -- One law of the reader for each way out of its code. Assumes nothing.
-use Rattle.std.specs.Prelude.{ℕ, zero, suc, ◌+◌, ◌-◌, ◌<◌, ◌≤◌, ◌≡◌, refl, Bool, true, false, cond, List, [], ◌∷◌, ◌++◌, length, take, drop, get_or, ltb, Ok, Err, Option}
+use Rattle.std.specs.Prelude.{ℕ, zero, suc, ◌+◌, ◌-◌, ◌<◌, ◌≤◌, ◌≡◌, refl, Bool, true, false, cond, List, [], ◌∷◌, ◌++◌, length, take, drop, get_or, ltb, min, Ok, Err, Option, Some, None}
 use Rattle.std.proofs.Common.{arith, sym, ap, ◌∙◌, append-nil, length-append, length-drop, lt-ltb, le-ltb, ltb-false, eq-eqb, ne_eqb}
+use Rattle.wire.specs.Clash.{never}
 use Rattle.wire.specs.Told.{done, refused, nowhere}
 use Rattle.wire.specs.ToldLaws.{let_pass, let_refuse}
 use Rattle.wire.specs.PlaceLaws.{located_pass, located_fall}
@@ -9,31 +10,30 @@ use Rattle.wire.specs.PartLaws.{part_is, part_to_end}
 use Rattle.wire.specs.declared.refusals.Fault.{Fault}
 use Rattle.wire.specs.declared.refusals.Refusal.TheVariants.{InvalidAdditionalInfo}
 use Rattle.additional_info.specs.InfoType.{type_of}
-use Rattle.additional_info.specs.Area.{Info, code_in, length_in, end_of, data_in, rest_of, checks, stands, records_in, behind, all_in, place_of, area_check, area_offsets, timestamp_of, told_record, nothing, record_by02, ParsePromise, CountPromise, nth_in, NthPromise, taken, at_most, RecordPromise, WalkPromise}
+use Rattle.additional_info.specs.Area.{Info, code_in, length_in, end_of, data_in, rest_of, checks, stands, records_in, behind, all_in, place_of, area_check, area_offsets, timestamp_of, told_record, nothing, record_by02, ParsePromise, CountPromise, nth_in, NthPromise, taken, RecordPromise, WalkPromise}
 use Rattle.additional_info.specs.WalkLaws.{stopped, all-taken, behind_add, behind_is, behind-on, behind_stop, one_more, parted, passes, records_add, records-most, records-on, records_stop, refuses, stood}
 use Rattle.additional_info.specs.AreaLaws.{first_where, counted, not_counted}
 use Rattle.additional_info.specs.declared.info_type.AdditionalInfoType.{AdditionalInfoType}
 use Rattle.additional_info.specs.declared.area.AdditionalInfo.{AdditionalInfo}
-use Rattle.additional_info.specs.declared.area.AdditionalInfoAnswer.{AdditionalInfoAnswer}
 use Rattle.additional_info.specs.declared.area.Walked.{Walked}
 
 -- ---- for the code
 
 -- the record at the front takes no byte: none stands there
-pub none-stands : (s : List ℕ) (n : ℕ) → n ≡ taken s → n ≡ 0 → stands s ≡ false
-none-stands s n e z = go (stands s) refl (sym e ∙ z)
+pub none-stands : (s : List ℕ) → None ≡ taken s → stands s ≡ false
+none-stands s e = go (stands s) e
   where
-    go : (b : Bool) → stands s ≡ b → cond b (end_of s) 0 ≡ 0 → b ≡ false
-    go true p q = absurd (omega arith)
-    go false p q = refl
+    go : (b : Bool) → ◌≡◌ {A = Option ℕ} None (cond b (Some (end_of s)) None) → b ≡ false
+    go true q = never cc
+    go false q = refl
 
 -- it takes some: one stands there, and takes them up to its end
-pub one_stands : (s : List ℕ) (n : ℕ) → n ≡ taken s → (n ≡ 0 → ⊥) → (stands s ≡ true) × (n ≡ end_of s)
-one_stands s n e some = go (stands s) refl e
+pub one_stands : (s : List ℕ) (n : ℕ) → Some n ≡ taken s → (stands s ≡ true) × (n ≡ end_of s)
+one_stands s n e = go (stands s) e
   where
-    go : (b : Bool) → stands s ≡ b → n ≡ cond b (end_of s) 0 → (b ≡ true) × (n ≡ end_of s)
-    go true p q = (refl, q)
-    go false p q = absurd (some q)
+    go : (b : Bool) → Some n ≡ cond b (Some (end_of s)) None → (b ≡ true) × (n ≡ end_of s)
+    go true q = (refl, cc)
+    go false q = never cc
 
 -- past so many records, to a place
 abbrev pub to : ℕ → ℕ → Walked
@@ -59,13 +59,13 @@ reads s at h rest code many «data» t x part first second shown typed valued =
     rw (typed, valued, d, c, m)
 
 -- there is none, or the record at the front is refused, or handed out
-pub parse_none : (s : List ℕ) → length s ≡ 0 → ParsePromise s AdditionalInfoAnswer.None
+pub parse_none : (s : List ℕ) → length s ≡ 0 → ParsePromise s (Ok None)
 parse_none s none = simp (eq-eqb (length s) 0 none) refl ∙ sym (first_where s)
 
-pub parse_refused : (s : List ℕ) → (length s ≡ 0 → ⊥) → stands s ≡ false → ParsePromise s (AdditionalInfoAnswer.Refused (nowhere InvalidAdditionalInfo))
+pub parse_refused : (s : List ℕ) → (length s ≡ 0 → ⊥) → stands s ≡ false → ParsePromise s (Err (nowhere InvalidAdditionalInfo))
 parse_refused s some h = simp (ne_eqb (length s) 0 some) (sym (let_refuse (checks s) (record_by02 0 s) InvalidAdditionalInfo (refuses s h))) ∙ sym (first_where s)
 
-pub parse_read : (s : List ℕ) (r : AdditionalInfo) → (length s ≡ 0 → ⊥) → stands s ≡ true → told_record r ≡ record_by02 0 s → ParsePromise s (AdditionalInfoAnswer.Record r)
+pub parse_read : (s : List ℕ) (r : AdditionalInfo) → (length s ≡ 0 → ⊥) → stands s ≡ true → told_record r ≡ record_by02 0 s → ParsePromise s (Ok (Some r))
 parse_read s r some h p = simp (ne_eqb (length s) 0 some) (p ∙ sym (let_pass (checks s) (record_by02 0 s) (passes s h))) ∙ sym (first_where s)
 
 -- what remains behind it, as the part from its end on
@@ -144,12 +144,8 @@ record Asked (n k : ℕ) : Type 0 where
   pub most : k ≤ n
   pub some : 1 ≤ n → 1 ≤ k
 
-asked : (n k : ℕ) → k ≡ at_most n → Asked n k
-asked n k e = go (ltb n 8) refl e
-  where
-    go : (b : Bool) → ltb n 8 ≡ b → k ≡ cond b n 8 → Asked n k
-    go true h p = record { most = omega arith; some = λ x. omega arith }
-    go false h p = record { most = omega (arith, ltb-false n 8 h); some = λ x. omega arith }
+asked : (n k : ℕ) → k ≡ min n 8 → Asked n k
+asked n k e = record { most = omega arith; some = λ x. omega arith }
 
 -- what remains behind m records, as the part from its place to the end
 rest_is : (m at : ℕ) (s rest : List ℕ) → WalkPromise m s (to m at) → rest ≡ part_of s at (length s) → rest ≡ behind m s
@@ -165,7 +161,7 @@ pub record Turn (n m at k : ℕ) (s : List ℕ) (r : Walked) : Type 0 where
   pub falls : k ≤ r.records → 1 ≤ r.records
   pub last : r.records < k → WalkPromise n s (to (m + r.records) (at + r.at))
 
-pub turn : (n m at k : ℕ) (s rest : List ℕ) (r : Walked) → m < n → WalkPromise m s (to m at) → k ≡ at_most (n - m) → rest ≡ part_of s at (length s) → WalkPromise k rest r → Turn n m at k s r
+pub turn : (n m at k : ℕ) (s rest : List ℕ) (r : Walked) → m < n → WalkPromise m s (to m at) → k ≡ min (n - m) 8 → rest ≡ part_of s at (length s) → WalkPromise k rest r → Turn n m at k s r
 turn n m at k s rest r few p e shown w =
     let some = asked (n - m) k e in
     let here : rest ≡ behind m s = rest_is m at s rest p shown in
@@ -200,7 +196,7 @@ nth_nowhere s n = go (ltb n (length (all_in s)))
     go false = refl
 
 -- behind the last record there is none
-pub nth_none : (s : List ℕ) (n m : ℕ) → CountPromise s (Ok m) → m ≤ n → NthPromise s n AdditionalInfoAnswer.None
+pub nth_none : (s : List ℕ) (n m : ℕ) → CountPromise s (Ok m) → m ≤ n → NthPromise s n (Ok None)
 nth_none s n m p h =
     let k = counted s m p in
     sym (located_pass (area_check s ∷ []) (area_offsets s) (nth_in s n) refl (nth_nowhere s n) k.0 ∙ simp (le-ltb n (length (all_in s)) (omega (arith, k.1))))
@@ -210,14 +206,14 @@ pub nth_stands : (s : List ℕ) (n m : ℕ) (r : Walked) → CountPromise s (Ok 
 nth_stands s n m r p h w =
     ap (λ (k : ℕ). stands (drop k s)) w.1 ∙ ap stands (behind_is n s) ∙ one_more n s (omega (arith, (counted s m p).1))
 
-pub nth_read : (s : List ℕ) (n m : ℕ) (r : Walked) (i : AdditionalInfo) → CountPromise s (Ok m) → n < m → WalkPromise n s r → RecordPromise s r.at i → NthPromise s n (AdditionalInfoAnswer.Record i)
+pub nth_read : (s : List ℕ) (n m : ℕ) (r : Walked) (i : AdditionalInfo) → CountPromise s (Ok m) → n < m → WalkPromise n s r → RecordPromise s r.at i → NthPromise s n (Ok (Some i))
 nth_read s n m r i p h w q =
     let k = counted s m p in
     let at : record_by02 r.at (drop r.at s) ≡ record_by02 (place_of n s) (behind n s) = ap (λ (x : ℕ). record_by02 x (drop x s)) w.1 ∙ ap (record_by02 (place_of n s)) (behind_is n s) in
     q ∙ at ∙ sym (located_pass (area_check s ∷ []) (area_offsets s) (nth_in s n) refl (nth_nowhere s n) k.0 ∙ simp (lt-ltb n (length (all_in s)) (omega (arith, k.1))))
 
 -- an area that is not readable has no n-th
-pub nth_refused : (s : List ℕ) (n : ℕ) (e : Fault) → CountPromise s (Err e) → NthPromise s n (AdditionalInfoAnswer.Refused e)
+pub nth_refused : (s : List ℕ) (n : ℕ) (e : Fault) → CountPromise s (Err e) → NthPromise s n (Err e)
 nth_refused s n e p = ap (λ (k : ℕ). refused k e) (sym (five (ltb n (length (all_in s))))) ∙ sym (located_fall (area_check s ∷ []) (area_offsets s) (nth_in s n) e (not_counted s e p))
   where
     five : (b : Bool) → length (cond b (record_by02 (place_of n s) (behind n s)) nothing).values ≡ 5

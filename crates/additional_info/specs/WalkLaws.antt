@@ -29,8 +29,8 @@ passes s h = let w = stood s h in simp (le-ltb (length s) 2 w.two, le-ltb (lengt
 pub refuses : (s : List ℕ) → stands s ≡ false → verdict (checks s) ≡ Err InvalidAdditionalInfo
 refuses s h = go (ltb (length s) 2) (ltb (length s) (end_of s)) h
   where
-    go : (a b : Bool) → accepts (cond a (Err InvalidAdditionalInfo) (cond b (Err InvalidAdditionalInfo) (Ok tt))) ≡ false
-        → cond a (Err InvalidAdditionalInfo) (cond b (Err InvalidAdditionalInfo) (Ok tt)) ≡ Err InvalidAdditionalInfo
+    go : (a b : Bool) → accepts (cond a (Err InvalidAdditionalInfo) (cond b (Err InvalidAdditionalInfo) (Ok (tt {0})))) ≡ false
+        → cond a (Err InvalidAdditionalInfo) (cond b (Err InvalidAdditionalInfo) (Ok (tt {0}))) ≡ Err InvalidAdditionalInfo
     go true b k = refl
     go false true k = refl
     go false false k = never cc
@@ -236,7 +236,7 @@ module _ (s : List ℕ) (x : Readable s) where
 pub is_readable : (s : List ℕ) → verdict (area_check s ∷ []) ≡ Ok tt → Readable s
 is_readable s q = go (behind (length s) s) (walked (length s) s) (ltb 0 (length (behind (length s) s))) refl q
   where
-    go : (l : List ℕ) → row (all_in s) ++ l ≡ s → (b : Bool) → ltb 0 (length l) ≡ b → cond b (Err InvalidAdditionalInfo) Ok tt ≡ Ok tt → Readable s
+    go : (l : List ℕ) → row (all_in s) ++ l ≡ s → (b : Bool) → ltb 0 (length l) ≡ b → cond b (Err InvalidAdditionalInfo) (Ok (tt {0})) ≡ Ok (tt {0}) → Readable s
     go l w true e p = never cc
     go [] w false e p = record { records = all_in s; fills = sym w ∙ append-nil (row (all_in s)) }
     go (a ∷ l) w false e p = absurd (omega (arith, ltb-false 0 (length (a ∷ l)) e))

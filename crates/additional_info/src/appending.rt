@@ -7,16 +7,17 @@ use crate::area;
 use crate::info_type::AdditionalInfoType;
 use wire::Refusal;
 
-pub fn append(area: &[u8], info_type: AdditionalInfoType, data: &[u8], buf: &mut [u8]) -> Result<usize, Refusal>
+pub fn append(
+    area: &[u8],
+    info_type: AdditionalInfoType,
+    data: &[u8],
+    buf: &mut [u8],
+) -> Result<usize, Refusal>
     ensures { AppendPromise area.now info_type «data».now buf.old result buf.new }
 {
-    match judge(area, 2 + data.len()) {
-        Ok(()) => {
-            let head = [info_type.to_u8(), data.len() as u8];
-            wire::write3(area, &head, data, buf)
-        }
-        Err(why) => Err(why),
-    }
+    judge(area, 2 + data.len())?;
+    let head = [info_type.to_u8(), data.len() as u8];
+    wire::write3(area, &head, data, buf)
 }
 
 // Whether an area is readable, and with so many bytes more behind it fits its length byte.
@@ -35,10 +36,7 @@ pub fn judge(area: &[u8], more: usize) -> Result<(), Refusal>
 fn unfilled(area: &[u8]) -> bool
     ensures { result ≡ unfilled area.now }
 {
-    match area::count(area) {
-        Ok(_) => false,
-        Err(_) => true,
-    }
+    area::count(area).is_err()
 }
 
 // Whether n and m bytes together are more than 255, asked without a sum that could wrap.

@@ -1,6 +1,6 @@
 // An area of additional information: a row of records, each a type byte, a length byte and that many data bytes.
 ghost use Rattle.std.specs.Prelude.{◌≡◌, true, drop};
-ghost use Rattle.additional_info.specs.Area.{stands, taken, at_most, RecordPromise, TimestampPromise, WalkPromise, ParsePromise, CountPromise, NthPromise};
+ghost use Rattle.additional_info.specs.Area.{stands, taken, RecordPromise, TimestampPromise, WalkPromise, ParsePromise, CountPromise, NthPromise};
 
 use crate::info_type::AdditionalInfoType;
 use wire::{Fault, Refusal};
@@ -14,28 +14,21 @@ pub struct AdditionalInfo {
     pub timestamp: Option<u32>,
 }
 
-#[derive(Clone, Copy)]
-pub enum AdditionalInfoAnswer {
-    Record(AdditionalInfo),
-    None,
-    Refused(Fault),
-}
-
 impl AdditionalInfo {
     // The record at the front of an area; an empty area has none. What stands behind it is not looked at.
-    pub fn parse(area: &[u8]) -> AdditionalInfoAnswer
+    pub fn parse(area: &[u8]) -> Result<Option<AdditionalInfo>, Fault>
         ensures { ParsePromise area.now result }
     {
         if area.len() == 0 {
-            return AdditionalInfoAnswer::None;
+            return Ok(None);
         }
-        if taken(area) == 0 {
-            return AdditionalInfoAnswer::Refused(Fault {
+        match taken(area) {
+            Some(_) => Ok(Some(record_at(area, 0))),
+            None => Err(Fault {
                 why: Refusal::InvalidAdditionalInfo,
                 at: 0,
-            });
+            }),
         }
-        AdditionalInfoAnswer::Record(record_at(area, 0))
     }
 }
 
@@ -54,19 +47,15 @@ pub fn count(area: &[u8]) -> Result<usize, Fault>
 }
 
 // The record behind n others. The whole area has to be readable.
-pub fn nth(area: &[u8], n: usize) -> AdditionalInfoAnswer
+pub fn nth(area: &[u8], n: usize) -> Result<Option<AdditionalInfo>, Fault>
     ensures { NthPromise area.now n result }
 {
-    match count(area) {
-        Ok(many) => {
-            if many <= n {
-                return AdditionalInfoAnswer::None;
-            }
-            let passed = past(area, n);
-            AdditionalInfoAnswer::Record(record_at(area, passed.at))
-        }
-        Err(fault) => AdditionalInfoAnswer::Refused(fault),
+    let many = count(area)?;
+    if many <= n {
+        return Ok(None);
     }
+    let passed = past(area, n);
+    Ok(Some(record_at(area, passed.at)))
 }
 
 // How many records were gone past, and where what remains starts.
@@ -86,7 +75,7 @@ fn past(area: &[u8], n: usize) -> Walked
     let mut records = 0;
     let mut at = 0;
     while records < n {
-        let most = at_most(n - records);
+        let most = (n - records).min(MOST);
         let next = walk(wire::part(area, at, area.len()), most);
         records += next.records;
         at += next.at;
@@ -104,35 +93,30 @@ fn walk(area: &[u8], n: usize) -> Walked
     if n == 0 {
         return Walked { records: 0, at: 0 };
     }
-    let end = taken(area);
-    if end == 0 {
-        return Walked { records: 0, at: 0 };
-    }
-    let rest = walk(wire::part(area, end, area.len()), n - 1);
-    Walked {
-        records: 1 + rest.records,
-        at: end + rest.at,
+    match taken(area) {
+        Some(end) => {
+            let rest = walk(wire::part(area, end, area.len()), n - 1);
+            Walked {
+                records: 1 + rest.records,
+                at: end + rest.at,
+            }
+        }
+        None => Walked { records: 0, at: 0 },
     }
 }
 
-fn at_most(n: usize) -> usize
-    ensures { result ≡ at_most n }
-{
-    if n < MOST { n } else { MOST }
-}
-
-// How many bytes the record at the front takes; 0 where none stands there whole.
-fn taken(area: &[u8]) -> usize
+// How many bytes the record at the front takes, where one stands there whole.
+fn taken(area: &[u8]) -> Option<usize>
     ensures { result ≡ taken area.now }
 {
     if area.len() < 2 {
-        return 0;
+        return None;
     }
     let end = 2 + area[1] as usize;
     if area.len() < end {
-        return 0;
+        return None;
     }
-    end
+    Some(end)
 }
 
 // The record at a place where one stands.
@@ -163,9 +147,7 @@ fn timestamp_of(code: u8, data: &[u8]) -> Option<u32>
     }
     if code == 0x06 {
         if data.len() == 4 {
-            return Some(
-                wire::word_at(data, 0) as u32 * 65536 + wire::word_at(data, 2) as u32,
-            );
+            return Some(wire::word_at(data, 0) as u32 * 65536 + wire::word_at(data, 2) as u32);
         }
     }
     None

@@ -7,5 +7,5 @@ mod area;
 mod info_type;
 
 pub use appending::{append, judge};
-pub use area::{AdditionalInfo, AdditionalInfoAnswer, count, nth};
+pub use area::{AdditionalInfo, count, nth};
 pub use info_type::AdditionalInfoType;

@@ -11,7 +11,7 @@ use Rattle.wire.specs.declared.refusals.Fault.{Fault}
 use Rattle.wire.specs.Told.{Verdict}
 
 abbrev pub borrowed_by : Verdict → List ℕ → List ℕ
-borrowed_by (Ok tt) s = s
+borrowed_by (Ok _) s = s
 borrowed_by (Err e) s = []
 
 -- a parse that answered borrows the bytes; one that refused borrows none

@@ -2,7 +2,7 @@
 ghost use Rattle.borrowed.specs.KnxnetIpFrame.{BorrowedPromise, ParsePromise, BodyViewPromise, BodyOfPromise, BodyPromise, BodyInPromise};
 
 use frame::FrameFields;
-use wire::View;
+use wire::{View, Fault};
 
 // The bytes of the datagram, none where it is refused, and what parsing it answered.
 #[derive(Clone, Copy)]

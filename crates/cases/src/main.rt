@@ -8,7 +8,7 @@ use frame::FrameBuilder;
 use header::KnxnetIpHeader;
 use std::env::{Env, FillError};
 use tunnelling::{ConnectionHeader, TunnelingRequest};
-use wire::Fault;
+use wire::{Fault, Refusal};
 
 // A line that cannot be written is left out, and the next one is tried.
 fn row(rt: &impl Print, name: &str, number: u8, size: usize) {

@@ -1,5 +1,5 @@
 -- 01, "cEMI": message code, additional length, the additional information, and what the code says the rest is; 02, 1/13: the area, and a whole frame; 2/13: L_Data in the standard count. Assumes nothing.
-use Rattle.std.specs.Prelude.{ℕ, ◌+◌, ◌≡◌, refl, Bool, true, false, not, List, [], ◌∷◌, ◌++◌, length, get_or, ltb, Result, Ok, Err}
+use Rattle.std.specs.Prelude.{ℕ, ◌+◌, ◌≡◌, refl, Bool, true, false, cond, not, List, [], ◌∷◌, ◌++◌, length, get_or, ltb, Result, Ok, Err}
 use Rattle.wire.specs.Told.{Told, done, viewed, refused, Check, ◌⇒◌, judged}
 use Rattle.wire.specs.Places.{located, standing, moved}
 use Rattle.wire.specs.Coding.{check}
@@ -94,6 +94,10 @@ info_check s = ltb (length s) (2 + info_length s) ⇒ InvalidFrame
 -- beside it, the offset of the additional length
 abbrev pub info_offset : ℕ
 info_offset = 1
+
+-- where the service information starts, in a frame that is long enough: `29 04 ..` is 6
+abbrev pub ServiceStartPromise : List ℕ → Result ℕ Fault → Type 0
+ServiceStartPromise s r = r ≡ cond (ltb (length s) (2 + info_length s)) (Err (record { why = InvalidFrame; at = info_offset })) (Ok (2 + info_length s))
 
 abbrev pub service_info_by01 : List ℕ → Told
 service_info_by01 s = judged (checks s ++ info_check s ∷ []) (viewed (2 + info_length s) (length s))

@@ -1,6 +1,7 @@
 -- A cEMI frame: how its accessors go on from the parse's checks, that what is accepted has the layout, and no second answer. Assumes nothing.
-use Rattle.std.specs.Prelude.{ℕ, suc, ◌+◌, ◌<◌, ◌≤◌, ◌≡◌, refl, true, false, not, List, [], ◌∷◌, ◌++◌, length, get_or, take, Result, Ok, Err}
+use Rattle.std.specs.Prelude.{ℕ, suc, ◌+◌, ◌<◌, ◌≤◌, ◌≡◌, refl, Bool, true, false, cond, not, ltb, List, [], ◌∷◌, ◌++◌, length, get_or, take, Result, Ok, Err}
 use Rattle.std.proofs.Common.{arith, sym, ap, ◌∙◌, lt-ltb, le-ltb}
+use Rattle.wire.specs.Clash.{never}
 use Rattle.wire.specs.Told.{Told, Check, done, verdict, judged}
 use Rattle.wire.specs.Places.{standing, later_fault, later}
 use Rattle.wire.specs.PlaceLaws.{all_at_0, judged-nowhere, stands_on, falls_still, stands-later, stands-accepted, accepted-stands, located_pass, located_fall, was_fallen, fault_within}
@@ -23,7 +24,7 @@ use Rattle.ldata.specs.LData as LData
 use Rattle.ldata.specs.LDataLaws as LDataLaws
 use Rattle.ldata.specs.declared.count.Counting.{Counting}
 use Rattle.ldata.specs.declared.ldata.LDataFields.{LDataFields}
-use Rattle.cemi.specs.Cemi.{fields, format, code_in, info_length, checks, offsets, told, parse_where, ParsePromise, told_length, InfoLengthPromise, info_check, info_offset, ServiceInfoPromise, is_ldata, service_info, ldata_checks, ldata_offsets, rest_offsets, as_ldata_where, AsLDataInPromise}
+use Rattle.cemi.specs.Cemi.{fields, format, code_in, info_length, checks, offsets, told, parse_where, ParsePromise, told_length, InfoLengthPromise, info_check, info_offset, ServiceStartPromise, ServiceInfoPromise, is_ldata, service_info, ldata_checks, ldata_offsets, rest_offsets, as_ldata_where, AsLDataInPromise}
 use Rattle.cemi.specs.declared.CEMIFrame.{CEMIFrame}
 
 -- ---- the two checks of a parse
@@ -56,6 +57,23 @@ too_short s a e h = simp (lt-ltb (length s) (2 + info_length s) (omega (arith, e
 
 pub long_enough : (s : List ℕ) (a : ℕ) → a ≡ info_length s → 2 + a ≤ length s → verdict (info_check s ∷ []) ≡ Ok tt
 long_enough s a e h = simp (le-ltb (length s) (2 + info_length s) (omega (arith, e)))
+
+-- where the service information starts was refused, or told
+pub start-short : (s : List ℕ) (e : Fault) → ServiceStartPromise s (Err e) → (e ≡ past_end) × (standing (info_check s ∷ []) (info_offset ∷ []) ≡ Err past_end)
+start-short s e p = go (ltb (length s) (2 + info_length s)) refl p
+  where
+    go : (b : Bool) → ltb (length s) (2 + info_length s) ≡ b → Err e ≡ cond b (Err past_end) (Ok (2 + info_length s))
+        → (e ≡ past_end) × (standing (info_check s ∷ []) (info_offset ∷ []) ≡ Err past_end)
+    go true h q = (cc, simp h)
+    go false h q = never cc
+
+pub start-told : (s : List ℕ) (n : ℕ) → ServiceStartPromise s (Ok n) → (n ≡ 2 + info_length s) × (verdict (info_check s ∷ []) ≡ Ok tt)
+start-told s n p = go (ltb (length s) (2 + info_length s)) refl p
+  where
+    go : (b : Bool) → ltb (length s) (2 + info_length s) ≡ b → Ok n ≡ cond b (Err past_end) (Ok (2 + info_length s))
+        → (n ≡ 2 + info_length s) × (verdict (info_check s ∷ []) ≡ Ok tt)
+    go true h q = never cc
+    go false h q = (cc, simp h)
 
 -- an offset for each check, whatever the count's order
 pub rest_each : (C : Count) (s : List ℕ) → length (LData.offsets (length (service_info s))) ≡ length (byte_checks C (service_info s))

@@ -5,7 +5,7 @@ use Rattle.wire.specs.Clash.{never}
 use Rattle.wire.specs.Told.{Told, done, viewed, Check, verdict, answer, judged}
 use Rattle.wire.specs.Places.{located}
 use Rattle.wire.specs.PlaceLaws.{located_pass}
-use Rattle.wire.specs.ToldLaws.{let_pass, goes_on, holds, let_through, was_accepted, same}
+use Rattle.wire.specs.ToldLaws.{never_done, let_pass, goes_on, holds, let_through, was_accepted, same}
 use Rattle.wire.specs.LayoutLaws.{length_three}
 use Rattle.wire.specs.Writing as Writing
 use Rattle.wire.specs.WritingLaws as WritingLaws
@@ -27,21 +27,21 @@ use Rattle.wire.specs.declared.refusals.Fault.{Fault}
 -- ---- the additional information
 
 -- it ends where the service information starts, and is refused as that is
-pub before_service : (s : List ℕ) (v : Result View Fault) → ServiceInfoPromise s v → v.number ≡ 0 → InfoPromise s (record { number = 0; start = 2; end = v.start; offset = 0 })
-before_service s v p z =
+pub before_service : (s : List ℕ) (v : View) → ServiceInfoPromise s (Ok v) → InfoPromise s (Ok (record { start = 2; end = v.start }))
+before_service s v p =
     let cs : List Check = checks s ++ info_check s ∷ [] in
     let behind : Told = viewed (2 + info_length s) (length s) in
     let here : Told = viewed 2 (2 + info_length s) in
-    ap (λ (e : ℕ). viewed 2 e) (ap (λ (t : Told). t.start) (let_through cs behind (Parts.told v) z p))
-    ∙ sym (located_pass cs (offsets s ++ info_offset ∷ []) here refl refl (was_accepted cs behind (Parts.told v) z p))
+    ap (λ (e : ℕ). viewed 2 e) (ap (λ (t : Told). t.start) (let_through cs behind (Parts.told (Ok v)) refl p))
+    ∙ sym (located_pass cs (offsets s ++ info_offset ∷ []) here refl refl (was_accepted cs behind (Parts.told (Ok v)) refl p))
 
-pub no_service : (s : List ℕ) (v : Result View Fault) → ServiceInfoPromise s v → (v.number ≡ 0 → ⊥) → InfoPromise s v
-no_service s v p some = go (verdict (checks s ++ info_check s ∷ [])) p
+pub no_service : (s : List ℕ) (e : Fault) → ServiceInfoPromise s (Err e) → InfoPromise s (Err e)
+no_service s e p = go (verdict (checks s ++ info_check s ∷ [])) p
   where
-    go : (w : Verdict) → Parts.told v ≡ located (checks s ++ info_check s ∷ []) (offsets s ++ info_offset ∷ []) (answer w (viewed (2 + info_length s) (length s)))
-        → Parts.told v ≡ located (checks s ++ info_check s ∷ []) (offsets s ++ info_offset ∷ []) (answer w (viewed 2 (2 + info_length s)))
-    go (Ok tt) q = absurd (some (ap (λ (t : Told). t.number) q))
-    go (Err e) q = q
+    go : (w : Verdict) → Parts.told (Err e) ≡ located (checks s ++ info_check s ∷ []) (offsets s ++ info_offset ∷ []) (answer w (viewed (2 + info_length s) (length s)))
+        → Parts.told (Err e) ≡ located (checks s ++ info_check s ∷ []) (offsets s ++ info_offset ∷ []) (answer w (viewed 2 (2 + info_length s)))
+    go (Ok _) q = absurd (never_done e.why (ap (λ (t : Told). t.number) q))
+    go (Err f) q = q
 
 -- three pieces that were written are the head, the area and the rest
 pub piece_by_piece : (f : CEMIFrame) (area rest head b : List ℕ) (r : Result ℕ Refusal) (after : List ℕ)

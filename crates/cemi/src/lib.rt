@@ -1,7 +1,7 @@
 // A cEMI frame: cemi.rs, `CEMIFrame`, whose slice stands beside it as a parameter.
 #![tactic(auto)]
 
-ghost use Rattle.cemi.specs.Cemi.{ParsePromise, StandsPromise, MessageCodePromise, InfoLengthPromise, ServiceInfoPromise, ServiceInfoPartPromise, AsLDataPromise, AsLDataInPromise, IsLDataPromise, InfoPromise, InfoPartPromise, BuildPromise};
+ghost use Rattle.cemi.specs.Cemi.{ParsePromise, StandsPromise, MessageCodePromise, InfoLengthPromise, ServiceStartPromise, ServiceInfoPromise, ServiceInfoPartPromise, AsLDataPromise, AsLDataInPromise, IsLDataPromise, InfoPromise, InfoPartPromise, BuildPromise};
 
 use constants::CEMIMessageCode;
 use ldata::{Counting, LDataFields};
@@ -24,12 +24,8 @@ impl CEMIFrame {
                 at: data.len(),
             });
         }
-        match CEMIMessageCode::from_u8(data[0]) {
-            Ok(message_code) => Ok(CEMIFrame {
-                message_code,
-            }),
-            Err(fault) => Err(fault),
-        }
+        let message_code = CEMIMessageCode::from_u8(data[0])?;
+        Ok(CEMIFrame { message_code })
     }
 
     pub fn message_code(self) -> CEMIMessageCode
@@ -41,42 +37,27 @@ impl CEMIFrame {
     pub fn additional_info_length(self, data: &[u8]) -> Result<u8, Fault>
         ensures { InfoLengthPromise «data».now result }
     {
-        match stands(data) {
-            Ok(()) => Ok(wire::byte_at(data, 1)),
-            Err(fault) => Err(fault),
-        }
+        stands(data)?;
+        Ok(wire::byte_at(data, 1))
     }
 
     // Where the bytes after the additional information stand.
-    pub fn service_info(self, data: &[u8]) -> View
+    pub fn service_info(self, data: &[u8]) -> Result<View, Fault>
         ensures { ServiceInfoPromise «data».now result }
     {
-        match stands(data) {
-            Ok(()) => {
-                let start = 2 + wire::byte_at(data, 1) as usize;
-                if data.len() < start {
-                    return View::refused(Fault {
-                        why: Refusal::InvalidFrame,
-                        at: 1,
-                    });
-                }
-                View {
-                    number: 0,
-                    start,
-                    end: data.len(),
-                    offset: 0,
-                }
-            }
-            Err(fault) => View::refused(fault),
-        }
+        stands(data)?;
+        let start = service_start(data)?;
+        Ok(View {
+            start,
+            end: data.len(),
+        })
     }
 
     // What `service_info` names, as a part that starts in the middle of the frame.
     pub fn service_info_part(self, data: &[u8]) -> &[u8]
         ensures { ServiceInfoPartPromise «data».now result.now }
     {
-        let view = self.service_info(data);
-        wire::part(data, view.start, view.end)
+        wire::shown(data, self.service_info(data))
     }
 
     // In the crate's count, as in the Rust.
@@ -90,88 +71,63 @@ impl CEMIFrame {
     pub fn as_ldata_in(self, counting: Counting, data: &[u8]) -> Result<LDataFields, Fault>
         ensures { AsLDataInPromise counting self «data».now result }
     {
-        match stands(data) {
-            Ok(()) => {
-                if !self.is_ldata() {
-                    return Err(Fault {
-                        why: Refusal::InvalidMessageCode,
-                        at: 0,
-                    });
-                }
-                let start = 2 + wire::byte_at(data, 1) as usize;
-                if data.len() < start {
-                    return Err(Fault {
-                        why: Refusal::InvalidFrame,
-                        at: 1,
-                    });
-                }
-                let answer = LDataFields::parse_in(counting, wire::part(data, start, data.len()));
-                match answer {
-                    Ok(_) => answer,
-                    Err(fault) => {
-                        let why = fault.why;
-                        Err(Fault {
-                            why,
-                            at: start + fault.at,
-                        })
-                    }
-                }
-            }
-            Err(fault) => Err(fault),
+        stands(data)?;
+        if !self.is_ldata() {
+            return Err(Fault {
+                why: Refusal::InvalidMessageCode,
+                at: 0,
+            });
+        }
+        let start = service_start(data)?;
+        match LDataFields::parse_in(counting, wire::part(data, start, data.len())) {
+            Ok(fields) => Ok(fields),
+            Err(fault) => Err(Fault {
+                why: fault.why,
+                at: start + fault.at,
+            }),
         }
     }
 
     pub fn is_ldata(self) -> bool
         ensures { IsLDataPromise self result }
     {
-        let message_code = self.message_code;
-        match message_code {
-            CEMIMessageCode::LDataReq => true,
-            CEMIMessageCode::LDataInd => true,
-            CEMIMessageCode::LDataCon => true,
-            CEMIMessageCode::LRawReq => false,
-            CEMIMessageCode::LRawInd => false,
-            CEMIMessageCode::LRawCon => false,
-            CEMIMessageCode::LBusmonInd => false,
-        }
+        matches!(
+            self.message_code,
+            CEMIMessageCode::LDataReq | CEMIMessageCode::LDataInd | CEMIMessageCode::LDataCon,
+        )
     }
 
     // Where the additional information stands: up to where the service information starts. It is not judged.
-    pub fn additional_info(self, data: &[u8]) -> View
+    pub fn additional_info(self, data: &[u8]) -> Result<View, Fault>
         ensures { InfoPromise «data».now result }
     {
-        let behind = self.service_info(data);
-        if behind.number != 0 {
-            return behind;
-        }
-        View {
-            number: 0,
+        let behind = self.service_info(data)?;
+        Ok(View {
             start: CEMIFrame::MIN_SIZE,
             end: behind.start,
-            offset: 0,
-        }
+        })
     }
 
     // What `additional_info` names, as a part that starts in the middle of the frame.
     pub fn additional_info_part(self, data: &[u8]) -> &[u8]
         ensures { InfoPartPromise «data».now result.now }
     {
-        let view = self.additional_info(data);
-        wire::part(data, view.start, view.end)
+        wire::shown(data, self.additional_info(data))
     }
 
     // A whole frame: the additional information has to be readable, the service information is not looked at.
-    pub fn build(self, additional_info: &[u8], service_info: &[u8], buf: &mut [u8]) -> Result<usize, Refusal>
+    pub fn build(
+        self,
+        additional_info: &[u8],
+        service_info: &[u8],
+        buf: &mut [u8],
+    ) -> Result<usize, Refusal>
         ensures { BuildPromise self additional_info.now service_info.now buf.old result buf.new }
     {
-        match additional_info::judge(additional_info, 0) {
-            Ok(()) => {
-                let message_code = self.message_code;
-                let head = [message_code.to_u8(), additional_info.len() as u8];
-                wire::write3(&head, additional_info, service_info, buf)
-            }
-            Err(why) => Err(why),
-        }
+        additional_info::judge(additional_info, 0)?;
+        let message_code = self.message_code;
+        let head = [message_code.to_u8(), additional_info.len() as u8];
+        wire::write3(&head, additional_info, service_info, buf)
     }
 }
 
@@ -179,8 +135,20 @@ impl CEMIFrame {
 fn stands(data: &[u8]) -> Result<(), Fault>
     ensures { StandsPromise «data».now result }
 {
-    match CEMIFrame::parse(data) {
-        Ok(_) => Ok(()),
-        Err(fault) => Err(fault),
+    CEMIFrame::parse(data)?;
+    Ok(())
+}
+
+// The service information starts behind the additional information, which has to end within the frame.
+fn service_start(data: &[u8]) -> Result<usize, Fault>
+    ensures { ServiceStartPromise «data».now result }
+{
+    let start = 2 + wire::byte_at(data, 1) as usize;
+    if data.len() < start {
+        return Err(Fault {
+            why: Refusal::InvalidFrame,
+            at: 1,
+        });
     }
+    Ok(start)
 }

@@ -1,5 +1,5 @@
 -- 02, 1/13, "Read the gateway's timestamps": the reader decides what is readable, records come back through reader and writer, the old calls stay; then rows typed from 02. Over the promises that the contracts cite.
-use Rattle.std.specs.Prelude.{ℕ, ◌+◌, ◌≤◌, ◌≡◌, refl, List, [], ◌∷◌, ◌++◌, length, take, drop, replicate, Result, Ok, Err, Some, None}
+use Rattle.std.specs.Prelude.{ℕ, ◌+◌, ◌≤◌, ◌≡◌, refl, List, [], ◌∷◌, ◌++◌, length, take, drop, replicate, Result, Ok, Err, Some, None, Option}
 use Rattle.std.proofs.Common.{arith, sym, ap, ◌∙◌}
 use Rattle.wire.specs.Told.{Told, done, viewed, verdict}
 use Rattle.wire.specs.ToldLaws.{never_brought}
@@ -24,8 +24,6 @@ use Rattle.additional_info.specs.AppendingLaws as AppendingLaws
 use Rattle.additional_info.specs.declared.info_type.AdditionalInfoType.{AdditionalInfoType}
 use Rattle.additional_info.specs.declared.info_type.AdditionalInfoType.TheVariants as AdditionalInfoType
 use Rattle.additional_info.specs.declared.area.AdditionalInfo.{AdditionalInfo}
-use Rattle.additional_info.specs.declared.area.AdditionalInfoAnswer.{AdditionalInfoAnswer}
-use Rattle.additional_info.specs.declared.area.AdditionalInfoAnswer.TheVariants as AdditionalInfoAnswer
 use Rattle.cemi.specs.Cemi as Cemi
 use Rattle.cemi.specs.InfoLaws as CemiInfoLaws
 use Rattle.cemi.specs.declared.CEMIFrame.{CEMIFrame}
@@ -82,16 +80,16 @@ info-appends = AppendingLaws.appends
 -- ---- a record that is handed out
 
 -- at the front: its bytes and what remains are the area
-pub first_shows : (s : List ℕ) (r : AdditionalInfo) → Area.ParsePromise s (AdditionalInfoAnswer.Record r) → Area.layout (AreaLaws.shown_in s r) ++ drop r.end s ≡ s
+pub first_shows : (s : List ℕ) (r : AdditionalInfo) → Area.ParsePromise s (Ok (Some r)) → Area.layout (AreaLaws.shown_in s r) ++ drop r.end s ≡ s
 first_shows = AreaLaws.parse_shows
 
 -- and for n: it stands behind n others
-pub nth_shows : (s : List ℕ) (n : ℕ) (r : AdditionalInfo) → Area.NthPromise s n (AdditionalInfoAnswer.Record r) → drop n (Area.all_in s) ≡ AreaLaws.shown_in s r ∷ drop (n + 1) (Area.all_in s)
+pub nth_shows : (s : List ℕ) (n : ℕ) (r : AdditionalInfo) → Area.NthPromise s n (Ok (Some r)) → drop n (Area.all_in s) ≡ AreaLaws.shown_in s r ∷ drop (n + 1) (Area.all_in s)
 nth_shows = AreaLaws.nth_shows
 
 -- "an empty one has no record"
-pub empty_has_none : (r : AdditionalInfoAnswer) (k : Result ℕ Fault) → Area.ParsePromise [] r → Area.CountPromise [] k → (r ≡ AdditionalInfoAnswer.None) × (k ≡ Ok 0)
-empty_has_none r k p q = (AreaLaws.parse_one [] r AdditionalInfoAnswer.None p refl, readable_is_counted [] (record { records = []; fills = refl }) k q)
+pub empty_has_none : (r : Result (Option AdditionalInfo) Fault) (k : Result ℕ Fault) → Area.ParsePromise [] r → Area.CountPromise [] k → (r ≡ Ok None) × (k ≡ Ok 0)
+empty_has_none r k p q = (AreaLaws.parse_one [] r (Ok None) p refl, readable_is_counted [] (record { records = []; fills = refl }) k q)
 
 -- "types outside `AdditionalInfoType` are kept as numbers"
 pub type_kept : (n : ℕ) (t : AdditionalInfoType) (m : ℕ) → InfoType.FromPromise n t → InfoType.ToPromise t m → m ≡ n
@@ -142,18 +140,18 @@ info_never_14 s r p q =
 -- ---- rows, typed from 02's rule
 
 -- a record with a timestamp, or with none
-abbrev stamped_info : AdditionalInfoType → ℕ → ℕ → ℕ → AdditionalInfoAnswer
-stamped_info t value start end = AdditionalInfoAnswer.Record (record { info_type = t; timestamp = Some value; start = start; end = end })
+abbrev stamped_info : AdditionalInfoType → ℕ → ℕ → ℕ → Result (Option AdditionalInfo) Fault
+stamped_info t value start end = Ok (Some (record { info_type = t; timestamp = Some value; start = start; end = end }))
 
-abbrev plain_info : AdditionalInfoType → ℕ → ℕ → AdditionalInfoAnswer
-plain_info t start end = AdditionalInfoAnswer.Record (record { info_type = t; timestamp = None; start = start; end = end })
+abbrev plain_info : AdditionalInfoType → ℕ → ℕ → Result (Option AdditionalInfo) Fault
+plain_info t start end = Ok (Some (record { info_type = t; timestamp = None; start = start; end = end }))
 
 -- 14, at the type byte of the record that does not stand
 abbrev broken : ℕ → Fault
 broken at = record { why = InvalidAdditionalInfo; at = at }
 
-abbrev refused14 : ℕ → AdditionalInfoAnswer
-refused14 at = AdditionalInfoAnswer.Refused (broken at)
+abbrev refused14 : ℕ → Result (Option AdditionalInfo) Fault
+refused14 at = Err (broken at)
 
 -- a relative timestamp, a type without a name, an extended timestamp: records of 2, 1 and 4 bytes
 abbrev three_records : List ℕ
@@ -161,7 +159,7 @@ three_records = 0x04 ∷ 0x02 ∷ 0x12 ∷ 0x34 ∷ 0x99 ∷ 0x01 ∷ 0xAA ∷ 0
 
 pub record Reading : Type 0 where
   -- nothing; a lone type byte; a record past the end; a record without data
-  pub empty : Area.ParsePromise [] AdditionalInfoAnswer.None
+  pub empty : Area.ParsePromise [] (Ok None)
   pub lone_type_lem : Area.ParsePromise (0x04 ∷ []) (refused14 0)
   pub past_the_end : Area.ParsePromise (0x04 ∷ 0x03 ∷ 0x00 ∷ 0x00 ∷ []) (refused14 0)
   pub no_data : Area.ParsePromise (0x04 ∷ 0x00 ∷ []) (plain_info AdditionalInfoType.RelativeTimestamp 2 2)
@@ -170,7 +168,7 @@ pub record Reading : Type 0 where
   pub first_of_all : Area.NthPromise three_records 0 (stamped_info AdditionalInfoType.RelativeTimestamp 0x1234 2 4)
   pub second : Area.NthPromise three_records 1 (plain_info (AdditionalInfoType.Unknown 0x99) 6 7)
   pub third : Area.NthPromise three_records 2 (stamped_info AdditionalInfoType.ExtendedRelativeTimestamp 0x80010203 9 13)
-  pub fourth : Area.NthPromise three_records 3 AdditionalInfoAnswer.None
+  pub fourth : Area.NthPromise three_records 3 (Ok None)
   pub three : Area.CountPromise three_records (Ok 3)
   -- a timestamp of another length is a record without a value
   pub long_relative : Area.ParsePromise (0x04 ∷ 0x04 ∷ 1 ∷ 2 ∷ 3 ∷ 4 ∷ []) (plain_info AdditionalInfoType.RelativeTimestamp 2 6)

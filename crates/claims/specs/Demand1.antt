@@ -1,5 +1,5 @@
 -- Demand 1: a number other than 0 is one of 1 to 14, comes with zeros and an empty view, and changes no lent byte. One theorem for each public function that can refuse, under its name, over the promise that its contract names; at the end the functions that refuse nothing. That nothing faults, wraps or hangs is the gate's verdict on functions without a `requires`.
-use Rattle.std.specs.Prelude.{ℕ, ◌+◌, ◌≡◌, refl, List, [], ◌∷◌, ◌++◌, length, Bool, Result, Err}
+use Rattle.std.specs.Prelude.{ℕ, ◌+◌, ◌≡◌, refl, List, [], ◌∷◌, ◌++◌, length, Bool, Result, Err, Option}
 use Rattle.std.proofs.Common.{ap, sym, subst, ◌∙◌}
 use Rattle.wire.specs.Told.{done, refused, viewed, verdict, answer}
 use Rattle.wire.specs.Layout.{get}
@@ -31,7 +31,6 @@ use Rattle.additional_info.specs.Area as Area
 use Rattle.additional_info.specs.AreaLaws.{first-refusing, nth_refusing}
 use Rattle.additional_info.specs.Appending as Appending
 use Rattle.additional_info.specs.declared.info_type.AdditionalInfoType.{AdditionalInfoType}
-use Rattle.additional_info.specs.declared.area.AdditionalInfoAnswer.{AdditionalInfoAnswer}
 use Rattle.cemi.specs.Cemi as Cemi
 use Rattle.cemi.specs.declared.CEMIFrame.{CEMIFrame}
 use Rattle.header.specs.Header as Header
@@ -111,6 +110,7 @@ use Rattle.knx.specs.declared.building.KnxEndpoint.{KnxEndpoint}
 use Rattle.knx.specs.declared.called.KnxCalled.{KnxCalled}
 use Rattle.connect.specs.declared.channel.ConnectionStateResponse.{ConnectionStateResponse}
 use Rattle.constants.specs.declared.message_codes.CEMIMessageCode.{CEMIMessageCode}
+use Rattle.additional_info.specs.declared.area.AdditionalInfo.{AdditionalInfo}
 
 -- ---- wire
 
@@ -177,7 +177,7 @@ ldata_build = ldata_build_in Crate
 -- ---- additional_info
 
 -- additional_info::AdditionalInfo::parse
-pub info_parse : (s : List ℕ) (r : AdditionalInfoAnswer) → Area.ParsePromise s r → Refusing (Area.told r)
+pub info_parse : (s : List ℕ) (r : Result (Option AdditionalInfo) Fault) → Area.ParsePromise s r → Refusing (Area.told r)
 info_parse s r p = rw p (first-refusing s)
 
 -- additional_info::count
@@ -185,7 +185,7 @@ pub info-count : (s : List ℕ) (r : Result ℕ Fault) → Area.CountPromise s r
 info-count s r = judged-refusing (Area.area_check s ∷ []) (done (length (Area.all_in s) ∷ [])) (Area.told_count r) refl
 
 -- additional_info::nth
-pub info_nth : (s : List ℕ) (n : ℕ) (r : AdditionalInfoAnswer) → Area.NthPromise s n r → Refusing (Area.told r)
+pub info_nth : (s : List ℕ) (n : ℕ) (r : Result (Option AdditionalInfo) Fault) → Area.NthPromise s n r → Refusing (Area.told r)
 info_nth s n r p = rw p (nth_refusing s n)
 
 -- additional_info::judge

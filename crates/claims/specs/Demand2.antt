@@ -109,7 +109,7 @@ pub header_has_layout : HasLayout Header.layout header 6 Header.parse_where
 header_has_layout = HeaderLaws.has_layout
 
 abbrev pub hpai : Hpai → Told
-hpai h = Hpai.told (HpaiLaws.accepted h)
+hpai h = Hpai.told (Ok h)
 
 pub hpai_reads_back : ReadsBack HpaiLaws.Proper Hpai.layout hpai Hpai.parse_where
 hpai_reads_back = HpaiLaws.reads_back
@@ -203,7 +203,7 @@ pub header_encode_parse : (h : KnxnetIpHeader) (b : List ℕ) (n : ℕ) (after :
 header_encode_parse = HeaderLaws.encode_parse
 
 pub hpai_encode_parse : (h : Hpai) (b : List ℕ) (n : ℕ) (after : List ℕ) (r : Result Hpai Fault)
-    → HpaiLaws.Proper h → Hpai.EncodePromise h b (Ok n) after → Hpai.ParsePromise after r → r ≡ HpaiLaws.accepted h
+    → HpaiLaws.Proper h → Hpai.EncodePromise h b (Ok n) after → Hpai.ParsePromise after r → r ≡ Ok h
 hpai_encode_parse = HpaiLaws.encode_parse
 
 pub frame_build_parse : (f : FrameBuilder) (body b : List ℕ) (n : ℕ) (after : List ℕ) (r : Result FrameFields Fault)
@@ -240,10 +240,10 @@ pub connection_header_has_layout : (s : List ℕ) (h : ConnectionHeader) → Byt
 connection_header_has_layout = ConnectionLaws.has_layout
 
 pub connect_response_reads_back : (c : ConnectResponse) (rest : List ℕ) → ConnectResponse.Arrays c → c.data_endpoint.structure_length ≡ 8
-    → ConnectResponse.parse_where (ConnectResponse.layout c ++ rest) ≡ ConnectResponse.told (ConnectResponseLaws.accepted c)
+    → ConnectResponse.parse_where (ConnectResponse.layout c ++ rest) ≡ ConnectResponse.told (Ok c)
 connect_response_reads_back = ConnectResponseLaws.reads_back
 
-pub connect_response_has_layout : (s : List ℕ) (c : ConnectResponse) → Bytes s → ConnectResponse.ParsePromise s (ConnectResponseLaws.accepted c) → take 14 s ≡ ConnectResponse.layout c
+pub connect_response_has_layout : (s : List ℕ) (c : ConnectResponse) → Bytes s → ConnectResponse.ParsePromise s (Ok c) → take 14 s ≡ ConnectResponse.layout c
 connect_response_has_layout = ConnectResponseLaws.has_layout
 
 -- connection state and disconnect responses

@@ -91,13 +91,13 @@ pub response_refuses : (s : List ℕ) → (get_or s 1 0 ≡ 0 → ⊥) → Conne
 response_refuses = ConnectResponseLaws.refusing
 
 pub response_reads_back : (c : ConnectResponse) (rest : List ℕ) → ConnectResponse.Arrays c → c.data_endpoint.structure_length ≡ 8 → c.status ≡ 0
-    → ConnectResponse.parse_standard_where (ConnectResponse.layout c ++ rest) ≡ ConnectResponse.told (ConnectResponseLaws.accepted c)
+    → ConnectResponse.parse_standard_where (ConnectResponse.layout c ++ rest) ≡ ConnectResponse.told (Ok c)
 response_reads_back = ConnectResponseLaws.knx_back
 
 pub refusal_reads_back : (channel status : ℕ) (rest : List ℕ) → (status ≡ 0 → ⊥) → ConnectResponse.parse_standard_where (put (byte ∷ byte ∷ []) (channel ∷ status ∷ []) ++ rest) ≡ done (ConnectResponse.bare channel status)
 refusal_reads_back = ConnectResponseLaws.bare_back
 
-pub response_has_layout : (s : List ℕ) (c : ConnectResponse) → Bytes s → ConnectResponse.ParseStandardPromise s (ConnectResponseLaws.accepted c) → c.status ≡ 0 → take 14 s ≡ ConnectResponse.layout c
+pub response_has_layout : (s : List ℕ) (c : ConnectResponse) → Bytes s → ConnectResponse.ParseStandardPromise s (Ok c) → c.status ≡ 0 → take 14 s ≡ ConnectResponse.layout c
 response_has_layout = ConnectResponseLaws.knx_has_layout
 
 pub refusal_has_layout : (s : List ℕ) (r : Result ConnectResponse Fault) → ConnectResponse.ParseStandardPromise s r → (r.response.status ≡ 0 → ⊥)
@@ -106,7 +106,7 @@ refusal_has_layout = ConnectResponseLaws.bare_has_layout
 
 -- ---- disconnecting, where the gateway asks for it
 
-pub disconnect_request_has_layout : (s : List ℕ) (q : DisconnectRequest) → Bytes s → Channel.DisconnectRequestParsePromise s (ChannelLaws.accepted q)
+pub disconnect_request_has_layout : (s : List ℕ) (q : DisconnectRequest) → Bytes s → Channel.DisconnectRequestParsePromise s (Ok q)
     → take 10 s ≡ put Channel.request_fields (q.channel_id ∷ get_or s 1 0 ∷ Hpai.values q.control_endpoint)
 disconnect_request_has_layout = ChannelLaws.request_has_layout
 

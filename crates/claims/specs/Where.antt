@@ -133,7 +133,7 @@ offset_of (Ack channel n status) = 0
 offset_of (Refused e) = e.at
 
 or_nowhere : (v : Verdict) (out : List ℕ) (t : Tunnel) (a : After) → a.0.0.offset ≡ 0 → (or_refused v out t a).0.0.offset ≡ 0
-or_nowhere (Ok tt) out t a z = z
+or_nowhere (Ok _) out t a z = z
 or_nowhere (Err e) out t a z = refl
 
 arrived-nowhere : (f : Form) (x : Arrival) (t : Tunnel) (channel n end : ℕ) (out : List ℕ) → (arrived f x t channel n end out).0.0.offset ≡ 0

@@ -1,5 +1,5 @@
 -- Connection state and disconnect: requests of 16 bytes, a shorter buffer is 1; responses need 2 bytes. Each shape is said once. Behind 01's, what a host needs where the gateway is the one to disconnect. Assumes nothing.
-use Rattle.std.specs.Prelude.{ℕ, ◌≡◌, refl, Bool, List, [], ◌∷◌, ◌++◌, length, get_or, drop, replicate, eqb, Result, Ok, Err}
+use Rattle.std.specs.Prelude.{ℕ, ◌≡◌, refl, Bool, List, [], ◌∷◌, ◌++◌, length, get_or, drop, eqb, Result, Ok, Err}
 use Rattle.wire.specs.Told.{Told, done, refused, Check}
 use Rattle.wire.specs.Places.{moved}
 use Rattle.wire.specs.Writing.{Writes, room}
@@ -105,14 +105,11 @@ request_format = record {
 }
 
 abbrev pub told_request : Result DisconnectRequest Fault → Told
-told_request r = record { number = r.number; values = r.request.channel_id ∷ Hpai.values r.request.control_endpoint; start = 0; end = 0; offset = r.offset }
+told_request (Ok q) = done (q.channel_id ∷ Hpai.values q.control_endpoint)
+told_request (Err e) = refused 8 e
 
 abbrev pub DisconnectRequestParsePromise : List ℕ → Result DisconnectRequest Fault → Type 0
 DisconnectRequestParsePromise s r = told_request r ≡ read_where request_format s
-
--- eight zeros beside the number, and the offset
-abbrev pub NoRequestPromise : ℕ → ℕ → Result DisconnectRequest Fault → Type 0
-NoRequestPromise n o r = told_request r ≡ record { number = n; values = replicate 8 0; start = 0; end = 0; offset = o }
 
 -- ---- the response that it is owed: 8 bytes, a shorter buffer is 1. `06 10 02 0A 00 08 15 00` is channel 0x15, status 0
 

@@ -1,7 +1,7 @@
 -- Connection state and disconnect: requests come back from their frames, responses have their layout, and no second answer. Assumes nothing.
-use Rattle.std.specs.Prelude.{ℕ, ◌+◌, ◌≤◌, ◌≡◌, refl, List, [], ◌∷◌, length, get_or, take, drop, Result, Ok, Err}
+use Rattle.std.specs.Prelude.{ℕ, ◌≤◌, ◌≡◌, refl, List, [], ◌∷◌, length, get_or, take, drop, Result, Ok, Err}
 use Rattle.std.proofs.Common.{arith, sym, ap, ◌∙◌, append-nil, le-ltb, eq-eqb}
-use Rattle.wire.specs.Told.{Told, done}
+use Rattle.wire.specs.Told.{Told, done, refused}
 use Rattle.wire.specs.ToldLaws.{one_to_one, answer_of, back_refused, same}
 use Rattle.wire.specs.Layout.{put, get}
 use Rattle.wire.specs.Format.{read_where}
@@ -15,6 +15,7 @@ use Rattle.frame.specs.RoundTrip.{Carries, carries}
 use Rattle.hpai.specs.Hpai as Hpai
 use Rattle.hpai.specs.HpaiLaws as HpaiLaws
 use Rattle.hpai.specs.declared.Hpai.{Hpai}
+use Rattle.connect.specs.Endpoint.{ReadPromise}
 use Rattle.connect.specs.EndpointLaws as EndpointLaws
 use Rattle.connect.specs.Channel.{request_layout, request_checks, RequestPromise, DisconnectBuildPromise, status_fields, status_format, status_where, status, told_state, StateParsePromise, told_disconnect, DisconnectParsePromise, request_fields, request_format, told_request, DisconnectRequestParsePromise, status_layout, response_checks, DisconnectResponseBuildPromise}
 use Rattle.connect.specs.declared.channel.DisconnectRequest.{DisconnectRequest}
@@ -31,13 +32,13 @@ pub request_one : (s : ServiceType) (channel : ℕ) (h : Hpai) (b : List ℕ) (r
 request_one s channel h b = writes_one (request_checks (length b)) (frame s (request_layout channel h)) b
 
 -- the endpoint stands at 2 of the body, which is 8 of the frame
-endpoint_back : (channel : ℕ) (h : Hpai) (r : Result Hpai Fault) → HpaiLaws.Proper h → Hpai.ParsePromise (drop 2 (request_layout channel h)) r → r ≡ HpaiLaws.accepted h
-endpoint_back channel h r p x = HpaiLaws.told_one r (HpaiLaws.accepted h) (x ∙ ap Hpai.parse_where (sym (append-nil (Hpai.layout h))) ∙ HpaiLaws.reads_back h [] p)
+endpoint_back : (channel : ℕ) (h : Hpai) (r : Result Hpai Fault) → HpaiLaws.Proper h → Hpai.ParsePromise (drop 2 (request_layout channel h)) r → r ≡ Ok h
+endpoint_back channel h r p x = HpaiLaws.told_one r (Ok h) (x ∙ ap Hpai.parse_where (sym (append-nil (Hpai.layout h))) ∙ HpaiLaws.reads_back h [] p)
 
 -- what is read of a request's body
 pub record Reads (channel : ℕ) (h : Hpai) (part : List ℕ) : Type 0 where
   pub channel_first : get_or part 0 0 ≡ channel
-  pub control-endpoint : (r : Result Hpai Fault) → Hpai.ParsePromise (drop 2 part) r → r ≡ HpaiLaws.accepted h
+  pub control-endpoint : (r : Result Hpai Fault) → Hpai.ParsePromise (drop 2 part) r → r ≡ Ok h
 
 -- built, parsed as a frame, the parts of its body parsed
 pub round_trip : (s : ServiceType) (channel : ℕ) (h : Hpai) (b : List ℕ) (n : ℕ) (after : List ℕ) (p : Result FrameFields Fault) → HpaiLaws.Proper h
@@ -81,43 +82,40 @@ has_layout s channel code b q =
 
 -- ---- a disconnect request that came in
 
--- on from its endpoint
-module _ (s : List ℕ) (enough : 10 ≤ length s) (h : Result Hpai Fault) (parsed : Hpai.ParsePromise (take 8 (drop 2 s)) h) where
-  -- its refusal is the request's, 2 later
-  pub fell : (h.number ≡ 0 → ⊥) → record { number = h.number; values = 0 ∷ 0 ∷ 0 ∷ 0 ∷ 0 ∷ 0 ∷ 0 ∷ 0 ∷ []; start = 0; end = 0; offset = 2 + h.offset } ≡ read_where request_format s
-  fell some = simp (le-ltb (length s) 10 enough) (EndpointLaws.refuses s enough h parsed (done (get_or s 0 0 ∷ get Hpai.fields 2 s)) some)
+-- on from its endpoint, whose refusal is the request's
+module _ (s : List ℕ) (enough : 10 ≤ length s) where
+  pub fell : (e : Fault) → ReadPromise s (Err e) → refused 8 e ≡ read_where request_format s
+  fell e q = simp (le-ltb (length s) 10 enough) (EndpointLaws.fell s (done (get_or s 0 0 ∷ get Hpai.fields 2 s)) e q)
 
-  pub stood : h.number ≡ 0 → done (get_or s 0 0 ∷ Hpai.values h.hpai) ≡ read_where request_format s
-  stood zero =
-      ap (λ (us : List ℕ). done (get_or s 0 0 ∷ us)) (EndpointLaws.read s enough h parsed zero)
-      ∙ simp (le-ltb (length s) 10 enough) (EndpointLaws.lets s enough h parsed (done (get_or s 0 0 ∷ get Hpai.fields 2 s)) refl zero)
+  pub stood : (c : Hpai) → ReadPromise s (Ok c) → done (get_or s 0 0 ∷ Hpai.values c) ≡ read_where request_format s
+  stood c q =
+      ap (λ (us : List ℕ). done (get_or s 0 0 ∷ us)) (EndpointLaws.held s c q)
+      ∙ simp (le-ltb (length s) 10 enough) (EndpointLaws.stood s (done (get_or s 0 0 ∷ get Hpai.fields 2 s)) c refl q)
 
-abbrev request_of : Told → Result DisconnectRequest Fault
-request_of t = record { number = t.number; request = record { channel_id = get_or t.values 0 0; control_endpoint = HpaiLaws.hpai_of (drop 1 t.values) }; offset = t.offset }
+request_of : List ℕ → Result DisconnectRequest Fault
+request_of vs = Ok (record { channel_id = get_or vs 0 0; control_endpoint = HpaiLaws.hpai_of (drop 1 vs) })
 
-request_back : (r : Result DisconnectRequest Fault) → request_of (told_request r) ≡ r
-request_back r =
-    ap (λ (h : Hpai). record { number = r.number; request = record { channel_id = r.request.channel_id; control_endpoint = h }; offset = r.offset }) (HpaiLaws.hpai_of_values r.request.control_endpoint)
+request_back : (r : Result DisconnectRequest Fault) → answer_of request_of Err (told_request r) ≡ r
+unfolding request_of
+request_back (Ok q) = ap (λ (h : Hpai). Ok (record { channel_id = q.channel_id; control_endpoint = h })) (HpaiLaws.hpai_of_values q.control_endpoint)
+request_back (Err e) = back_refused request_of Err 8 e
 
 request_told_one : (r q : Result DisconnectRequest Fault) → told_request r ≡ told_request q → r ≡ q
-request_told_one = one_to_one told_request request_of request_back
+request_told_one = one_to_one told_request (answer_of request_of Err) request_back
 
 pub request_parse_one : (s : List ℕ) (r q : Result DisconnectRequest Fault) → DisconnectRequestParsePromise s r → DisconnectRequestParsePromise s q → r ≡ q
 request_parse_one s r q a b = request_told_one r q (same a b)
 
-abbrev pub accepted : DisconnectRequest → Result DisconnectRequest Fault
-accepted q = record { number = 0; request = q; offset = 0 }
-
 -- what is read of its body: the same request
 abbrev pub ReadsRequest : DisconnectRequest → List ℕ → Type 0
-ReadsRequest q part = (r : Result DisconnectRequest Fault) → DisconnectRequestParsePromise part r → r ≡ accepted q
+ReadsRequest q part = (r : Result DisconnectRequest Fault) → DisconnectRequestParsePromise part r → r ≡ Ok q
 
 request-reads : (q : DisconnectRequest) → HpaiLaws.Proper q.control_endpoint → ReadsRequest q (request_layout q.channel_id q.control_endpoint)
 request-reads q p r x =
     let h : Hpai = q.control_endpoint in
     let vs : List ℕ = q.channel_id ∷ 0 ∷ Hpai.values h in
     let nine : length vs ≡ 9 = omega (arith, HpaiLaws.length-values h p.address_4) in
-    request_told_one r (accepted q)
+    request_told_one r (Ok q)
     (x ∙ ap (read_where request_format) (sym (append-nil (request_layout q.channel_id h)))
     ∙ FormatLaws.reads_back request_format vs [] nine (simp (eq-eqb h.structure_length 8 p.length_8)))
 
@@ -129,10 +127,10 @@ request_round_trip q b n after p proper built parsed =
     (omega (arith, HpaiLaws.length-layout q.control_endpoint proper.address_4)) built parsed (request-reads q proper)
 
 -- what is accepted has the layout of its answer, but for the reserved byte
-pub request_has_layout : (s : List ℕ) (q : DisconnectRequest) → Bytes s → DisconnectRequestParsePromise s (accepted q)
+pub request_has_layout : (s : List ℕ) (q : DisconnectRequest) → Bytes s → DisconnectRequestParsePromise s (Ok q)
     → take 10 s ≡ put request_fields (q.channel_id ∷ get_or s 1 0 ∷ Hpai.values q.control_endpoint)
 request_has_layout s q b p =
-    let x = FormatLaws.accepted request_format s (told_request (accepted q)) refl p in
+    let x = FormatLaws.accepted request_format s (told_request (Ok q)) refl p in
     x.bytes b ∙ ap (λ (t : Told). put request_fields (get_or t.values 0 0 ∷ get_or s 1 0 ∷ drop 1 t.values)) (sym x.told_is)
 
 -- ---- the response that it is owed

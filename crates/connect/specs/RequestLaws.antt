@@ -28,20 +28,20 @@ pub record Proper (q : ConnectRequest) : Type 0 where
   pub other : HpaiLaws.Proper q.data_endpoint
 
 -- the parts of the body: at 0, 8 and 16, which are 6, 14 and 22 of the frame
-control_back : (q : ConnectRequest) (r : Result Hpai Fault) → Proper q → Hpai.ParsePromise (layout q) r → r ≡ HpaiLaws.accepted q.control_endpoint
+control_back : (q : ConnectRequest) (r : Result Hpai Fault) → Proper q → Hpai.ParsePromise (layout q) r → r ≡ Ok q.control_endpoint
 control_back q r p x =
     let c : List ℕ = Hpai.layout q.control_endpoint in
     let d : List ℕ = Hpai.layout q.data_endpoint in
     let i : List ℕ = Cri.layout q.cri in
-    HpaiLaws.told_one r (HpaiLaws.accepted q.control_endpoint) (x ∙ ap Hpai.parse_where (append_assoc c d i) ∙ HpaiLaws.reads_back q.control_endpoint (d ++ i) p.control)
+    HpaiLaws.told_one r (Ok q.control_endpoint) (x ∙ ap Hpai.parse_where (append_assoc c d i) ∙ HpaiLaws.reads_back q.control_endpoint (d ++ i) p.control)
 
-data_back : (q : ConnectRequest) (r : Result Hpai Fault) → Proper q → Hpai.ParsePromise (drop 8 (layout q)) r → r ≡ HpaiLaws.accepted q.data_endpoint
+data_back : (q : ConnectRequest) (r : Result Hpai Fault) → Proper q → Hpai.ParsePromise (drop 8 (layout q)) r → r ≡ Ok q.data_endpoint
 data_back q r p x =
     let c : List ℕ = Hpai.layout q.control_endpoint in
     let d : List ℕ = Hpai.layout q.data_endpoint in
     let i : List ℕ = Cri.layout q.cri in
     let behind : drop 8 (layout q) ≡ d ++ i = ap (drop 8) (append_assoc c d i) ∙ drop_at c (d ++ i) 8 (HpaiLaws.length-layout q.control_endpoint p.control.address_4) in
-    HpaiLaws.told_one r (HpaiLaws.accepted q.data_endpoint) (x ∙ ap Hpai.parse_where behind ∙ HpaiLaws.reads_back q.data_endpoint i p.other)
+    HpaiLaws.told_one r (Ok q.data_endpoint) (x ∙ ap Hpai.parse_where behind ∙ HpaiLaws.reads_back q.data_endpoint i p.other)
 
 cri_back : (q : ConnectRequest) (r : Result ConnectionRequestInfo Fault) → Proper q → Cri.DecodePromise (drop 16 (layout q)) r → r ≡ Ok q.cri
 cri_back q r p x =
@@ -61,8 +61,8 @@ length-layout q p =
 
 -- what is read of its body
 pub record Reads (q : ConnectRequest) (part : List ℕ) : Type 0 where
-  pub control-endpoint : (r : Result Hpai Fault) → Hpai.ParsePromise part r → r ≡ HpaiLaws.accepted q.control_endpoint
-  pub data_endpoint : (r : Result Hpai Fault) → Hpai.ParsePromise (drop 8 part) r → r ≡ HpaiLaws.accepted q.data_endpoint
+  pub control-endpoint : (r : Result Hpai Fault) → Hpai.ParsePromise part r → r ≡ Ok q.control_endpoint
+  pub data_endpoint : (r : Result Hpai Fault) → Hpai.ParsePromise (drop 8 part) r → r ≡ Ok q.data_endpoint
   pub request_information : (r : Result ConnectionRequestInfo Fault) → Cri.DecodePromise (drop 16 part) r → r ≡ Ok q.cri
 
 -- built, parsed as a frame, the parts of its body parsed

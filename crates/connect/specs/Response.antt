@@ -1,6 +1,6 @@
 -- "A connect response body needs 14 bytes (1) whatever its status, then the `Hpai` checks." Assumes nothing.
-use Rattle.std.specs.Prelude.{ℕ, ◌≡◌, refl, Bool, cond, List, [], ◌∷◌, ◌++◌, length, get_or, drop, replicate, eqb, ltb, Result}
-use Rattle.wire.specs.Told.{Told, done, Check, ◌⇒◌, judged}
+use Rattle.std.specs.Prelude.{ℕ, ◌≡◌, refl, Bool, cond, List, [], ◌∷◌, ◌++◌, length, get_or, drop, replicate, eqb, ltb, Result, Ok, Err, IfOk}
+use Rattle.wire.specs.Told.{Told, done, refused, Check, ◌⇒◌, judged}
 use Rattle.wire.specs.Places.{located, moved}
 use Rattle.wire.specs.Layout.{Field, byte, run, word_at, size, put, get}
 use Rattle.wire.specs.Format.{Format, checks_of, offsets_of, found_in, read_by01}
@@ -39,7 +39,8 @@ abbrev pub offsets : ℕ → List ℕ
 offsets n = offsets_of format n
 
 abbrev pub told : Result ConnectResponse Fault → Told
-told r = record { number = r.number; values = values r.response; start = 0; end = 0; offset = r.offset }
+told (Ok c) = done (values c)
+told (Err e) = refused 13 e
 
 abbrev pub parse_by01 : List ℕ → Told
 parse_by01 s = read_by01 format s
@@ -54,11 +55,7 @@ pub record Arrays (c : ConnectResponse) : Type 0 where
   pub crd_4 : length c.crd ≡ 4
 
 abbrev pub ParsePromise : List ℕ → Result ConnectResponse Fault → Type 0
-ParsePromise s r = (told r ≡ parse_where s) × Arrays r.response
-
--- thirteen zeros beside the number, and the offset
-abbrev pub RefusedPromise : ℕ → ℕ → Result ConnectResponse Fault → Type 0
-RefusedPromise n o r = (told r ≡ record { number = n; values = replicate 13 0; start = 0; end = 0; offset = o }) × Arrays r.response
+ParsePromise s r = (told r ≡ parse_where s) × IfOk r Arrays
 
 abbrev pub IsOkPromise : ConnectResponse → Bool → Type 0
 IsOkPromise c r = r ≡ eqb c.status 0
@@ -89,7 +86,7 @@ abbrev pub parse_standard_where : List ℕ → Told
 parse_standard_where s = located (knx_checks (length s) (get fields 0 s)) (knx_offsets (length s) (get fields 0 s)) (parse_by_knx s)
 
 abbrev pub ParseStandardPromise : List ℕ → Result ConnectResponse Fault → Type 0
-ParseStandardPromise s r = (told r ≡ parse_standard_where s) × Arrays r.response
+ParseStandardPromise s r = (told r ≡ parse_standard_where s) × IfOk r Arrays
 
 abbrev pub BarePromise : ℕ → ℕ → ConnectResponse → Type 0
 BarePromise channel status r = (values r ≡ bare channel status) × Arrays r

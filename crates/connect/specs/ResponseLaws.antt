@@ -1,10 +1,10 @@
 -- A connect response: how it goes on from its endpoint, both ways, and no second answer; then in KNX's form. Assumes nothing.
-use Rattle.std.specs.Prelude.{ℕ, ◌+◌, ◌<◌, ◌≤◌, ◌≡◌, refl, Bool, true, false, cond, ◌↔◌, List, [], ◌∷◌, ◌++◌, length, get_or, take, drop, ltb, eqb, Ok, Err, Result}
+use Rattle.std.specs.Prelude.{ℕ, ◌<◌, ◌≤◌, ◌≡◌, refl, Bool, true, false, cond, ◌↔◌, List, [], ◌∷◌, ◌++◌, length, get_or, take, drop, ltb, eqb, Result, Ok, Err, IfOk}
 use Rattle.std.proofs.Common.{arith, sym, ap, ◌∙◌, append_assoc, length-append, take_at, drop_at, lt-ltb, le-ltb, ltb-true, eq-eqb, ne_eqb, eqb-true}
 use Rattle.std.proofs.lemmas.List.{get_or_at}
 use Rattle.std.proofs.lemmas.Bool.{eqb-false}
 use Rattle.wire.specs.Told.{Told, done, refused, verdict, answer}
-use Rattle.wire.specs.ToldLaws.{same}
+use Rattle.wire.specs.ToldLaws.{answer_of, back_refused, same}
 use Rattle.wire.specs.Layout.{byte, run_at, put, get}
 use Rattle.wire.specs.FormatLaws as FormatLaws
 use Rattle.wire.specs.LayoutLaws.{Bytes}
@@ -13,23 +13,23 @@ use Rattle.wire.specs.declared.refusals.Refusal.TheVariants.{BufferTooSmall}
 use Rattle.wire.specs.Told.{Verdict}
 use Rattle.hpai.specs.Hpai as Hpai
 use Rattle.hpai.specs.declared.Hpai.{Hpai}
+use Rattle.connect.specs.Endpoint.{ReadPromise}
 use Rattle.connect.specs.EndpointLaws as EndpointLaws
 use Rattle.connect.specs.Response.{fields, format, values, layout, checks, told, parse_where, Arrays, ParsePromise, bare, parse_standard_where, ParseStandardPromise}
 use Rattle.connect.specs.declared.response.ConnectResponse.{ConnectResponse}
 
 -- ---- on from the endpoint, which stands from 2 to 10
 
-module _ (s : List ℕ) (enough : 14 ≤ length s) (h : Result Hpai Fault) (parsed : Hpai.ParsePromise (take 8 (drop 2 s)) h) where
-  -- the endpoint's refusal is the response's, 2 later
-  pub fell : (h.number ≡ 0 → ⊥) → record { number = h.number; values = 0 ∷ 0 ∷ 0 ∷ 0 ∷ 0 ∷ 0 ∷ 0 ∷ 0 ∷ 0 ∷ 0 ∷ 0 ∷ 0 ∷ 0 ∷ []; start = 0; end = 0; offset = 2 + h.offset } ≡ parse_where s
-  fell some = simp (le-ltb (length s) 14 enough) (EndpointLaws.refuses s (omega arith) h parsed (done (get fields 0 s)) some)
+module _ (s : List ℕ) (enough : 14 ≤ length s) where
+  -- the endpoint's refusal is the response's
+  pub fell : (e : Fault) → ReadPromise s (Err e) → refused 13 e ≡ parse_where s
+  fell e q = simp (le-ltb (length s) 14 enough) (EndpointLaws.fell s (done (get fields 0 s)) e q)
 
   -- and where it is accepted, the response is
-  pub stood : h.number ≡ 0
-      → done (get_or s 0 0 ∷ get_or s 1 0 ∷ (Hpai.values h.hpai ++ run_at 4 s 10)) ≡ parse_where s
-  stood zero =
-      ap (λ (us : List ℕ). done (get_or s 0 0 ∷ get_or s 1 0 ∷ (us ++ run_at 4 s 10))) (EndpointLaws.read s (omega arith) h parsed zero)
-      ∙ simp (le-ltb (length s) 14 enough) (EndpointLaws.lets s (omega arith) h parsed (done (get fields 0 s)) refl zero)
+  pub stood : (c : Hpai) → ReadPromise s (Ok c) → done (get_or s 0 0 ∷ get_or s 1 0 ∷ (Hpai.values c ++ run_at 4 s 10)) ≡ parse_where s
+  stood c q =
+      ap (λ (us : List ℕ). done (get_or s 0 0 ∷ get_or s 1 0 ∷ (us ++ run_at 4 s 10))) (EndpointLaws.held s c q)
+      ∙ simp (le-ltb (length s) 14 enough) (EndpointLaws.stood s (done (get fields 0 s)) c refl q)
 
 -- ---- no second answer
 
@@ -58,12 +58,16 @@ response_of_values c a =
     let five : length (ip ++ port ∷ []) ≡ 5 = length-append ip (port ∷ []) ∙ omega (arith, a.address_4) in
     rw (address, number, drop_at (ip ++ port ∷ []) c.crd 5 five)
 
-told_one : (r q : Result ConnectResponse Fault) → Arrays r.response → Arrays q.response → told r ≡ told q → r ≡ q
-told_one r q a b e =
-    let back : Told → (Result ConnectResponse Fault) = λ t. record { number = t.number; response = response_of t.values; offset = t.offset } in
-    let of-r : back (told r) ≡ r = ap (λ (c : ConnectResponse). record { number = r.number; response = c; offset = r.offset }) (response_of_values r.response a) in
-    let of-q : back (told q) ≡ q = ap (λ (c : ConnectResponse). record { number = q.number; response = c; offset = q.offset }) (response_of_values q.response b) in
-    sym of-r ∙ ap back e ∙ of-q
+answered : List ℕ → Result ConnectResponse Fault
+answered vs = Ok (response_of vs)
+
+told_back : (r : Result ConnectResponse Fault) → IfOk r Arrays → answer_of answered Err (told r) ≡ r
+unfolding answered
+told_back (Ok c) a = ap Ok (response_of_values c a)
+told_back (Err e) a = back_refused answered Err 13 e
+
+told_one : (r q : Result ConnectResponse Fault) → IfOk r Arrays → IfOk q Arrays → told r ≡ told q → r ≡ q
+told_one r q a b e = sym (told_back r a) ∙ ap (answer_of answered Err) e ∙ told_back q b
 
 pub parse_one : (s : List ℕ) (r q : Result ConnectResponse Fault) → ParsePromise s r → ParsePromise s q → r ≡ q
 parse_one s r q a b = told_one r q a.1 b.1 (same a.0 b.0)
@@ -73,21 +77,18 @@ parse_standard_one s r q a b = told_one r q a.1 b.1 (same a.0 b.0)
 
 -- ---- both ways
 
-abbrev pub accepted : ConnectResponse → Result ConnectResponse Fault
-accepted c = record { number = 0; response = c; offset = 0 }
-
 length-values : (c : ConnectResponse) → Arrays c → length (values c) ≡ 13
 length-values c a =
     let ip : List ℕ = c.data_endpoint.ip_address in
     omega (arith, length-append (ip ++ c.data_endpoint.port ∷ []) c.crd, length-append ip (c.data_endpoint.port ∷ []), a.address_4, a.crd_4)
 
 -- a response whose endpoint has the proper length byte is read back
-pub reads_back : (c : ConnectResponse) (rest : List ℕ) → Arrays c → c.data_endpoint.structure_length ≡ 8 → parse_where (layout c ++ rest) ≡ told (accepted c)
+pub reads_back : (c : ConnectResponse) (rest : List ℕ) → Arrays c → c.data_endpoint.structure_length ≡ 8 → parse_where (layout c ++ rest) ≡ told (Ok c)
 reads_back c rest a e = FormatLaws.reads_back format (values c) rest (length-values c a) (simp (eq-eqb _ _ e))
 
 -- what is accepted has the layout of its answer
-pub has_layout : (s : List ℕ) (c : ConnectResponse) → Bytes s → ParsePromise s (accepted c) → take 14 s ≡ layout c
-has_layout s c b q = let x = FormatLaws.accepted format s (told (accepted c)) refl q.0 in x.bytes b ∙ ap (λ (t : Told). put fields t.values) (sym x.told_is)
+pub has_layout : (s : List ℕ) (c : ConnectResponse) → Bytes s → ParsePromise s (Ok c) → take 14 s ≡ layout c
+has_layout s c b q = let x = FormatLaws.accepted format s (told (Ok c)) refl q.0 in x.bytes b ∙ ap (λ (t : Told). put fields t.values) (sym x.told_is)
 
 -- ---- in KNX's form
 
@@ -126,18 +127,18 @@ refusing s some = simp (le-ltb (length s) 2 (two s some), ne_eqb (get_or s 1 0) 
 pub bare_back : (channel status : ℕ) (rest : List ℕ) → (status ≡ 0 → ⊥) → parse_standard_where (put (byte ∷ byte ∷ []) (channel ∷ status ∷ []) ++ rest) ≡ done (bare channel status)
 bare_back channel status rest some = refusing (channel ∷ status ∷ rest) some
 
-pub knx_back : (c : ConnectResponse) (rest : List ℕ) → Arrays c → c.data_endpoint.structure_length ≡ 8 → c.status ≡ 0 → parse_standard_where (layout c ++ rest) ≡ told (accepted c)
+pub knx_back : (c : ConnectResponse) (rest : List ℕ) → Arrays c → c.data_endpoint.structure_length ≡ 8 → c.status ≡ 0 → parse_standard_where (layout c ++ rest) ≡ told (Ok c)
 knx_back c rest a e zero = as_01 (layout c ++ rest) zero ∙ reads_back c rest a e
 
 -- the status that is told is the body's
 status_01 : (s : List ℕ) (v : Verdict) → get_or s 1 0 ≡ 0 → get_or (answer v (done (get fields 0 s))).values 1 0 ≡ 0
-status_01 s (Ok tt) zero = zero
+status_01 s (Ok _) zero = zero
 status_01 s (Err e) zero = refl
 
-status_is : (s : List ℕ) (r : Result ConnectResponse Fault) → ParseStandardPromise s r → (r.response.status ≡ 0) ↔ (get_or s 1 0 ≡ 0)
-status_is s r q = (λ z. go (eqb (get_or s 1 0) 0) refl z, λ zero. ap (λ (t : Told). get_or t.values 1 0) (q.0 ∙ as_01 s zero) ∙ status_01 s (verdict (checks (length s) (get fields 0 s))) zero)
+status_is : (s : List ℕ) (c : ConnectResponse) → ParseStandardPromise s (Ok c) → (c.status ≡ 0) ↔ (get_or s 1 0 ≡ 0)
+status_is s c q = (λ z. go (eqb (get_or s 1 0) 0) refl z, λ zero. ap (λ (t : Told). get_or t.values 1 0) (q.0 ∙ as_01 s zero) ∙ status_01 s (verdict (checks (length s) (get fields 0 s))) zero)
   where
-    go : (b : Bool) → eqb (get_or s 1 0) 0 ≡ b → r.response.status ≡ 0 → get_or s 1 0 ≡ 0
+    go : (b : Bool) → eqb (get_or s 1 0) 0 ≡ b → c.status ≡ 0 → get_or s 1 0 ≡ 0
     go true e z = eqb-true (get_or s 1 0) 0 e
     go false e z = sym (ap (λ (t : Told). get_or t.values 1 0) (q.0 ∙ refusing s (eqb-false (get_or s 1 0) 0 e))) ∙ z
 
@@ -147,11 +148,11 @@ first_two [] some = absurd (some refl)
 first_two (x ∷ []) some = absurd (some refl)
 first_two (x ∷ y ∷ s) some = refl
 
-pub bare_has_layout : (s : List ℕ) (r : Result ConnectResponse Fault) → ParseStandardPromise s r → (r.response.status ≡ 0 → ⊥)
-    → take 2 s ≡ put (byte ∷ byte ∷ []) (r.response.channel_id ∷ r.response.status ∷ [])
-bare_has_layout s r q some =
-    let other : get_or s 1 0 ≡ 0 → ⊥ = λ z. some ((status_is s r q).1 z) in
+pub bare_has_layout : (s : List ℕ) (c : ConnectResponse) → ParseStandardPromise s (Ok c) → (c.status ≡ 0 → ⊥)
+    → take 2 s ≡ put (byte ∷ byte ∷ []) (c.channel_id ∷ c.status ∷ [])
+bare_has_layout s c q some =
+    let other : get_or s 1 0 ≡ 0 → ⊥ = λ z. some ((status_is s c q).1 z) in
     first_two s other ∙ sym (ap (λ (t : Told). get_or t.values 0 0 ∷ get_or t.values 1 0 ∷ []) (q.0 ∙ refusing s other))
 
-pub knx_has_layout : (s : List ℕ) (c : ConnectResponse) → Bytes s → ParseStandardPromise s (accepted c) → c.status ≡ 0 → take 14 s ≡ layout c
-knx_has_layout s c b q zero = has_layout s c b (q.0 ∙ as_01 s ((status_is s (accepted c) q).0 zero), q.1)
+pub knx_has_layout : (s : List ℕ) (c : ConnectResponse) → Bytes s → ParseStandardPromise s (Ok c) → c.status ≡ 0 → take 14 s ≡ layout c
+knx_has_layout s c b q zero = has_layout s c b (q.0 ∙ as_01 s ((status_is s c q).0 zero), q.1)

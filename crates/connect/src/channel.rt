@@ -1,6 +1,7 @@
 // Keeping a channel alive and closing it: two requests of one shape, two responses of one shape.
-ghost use Rattle.connect.specs.Channel.{StateNewPromise, StateBuildPromise, StateParsePromise, StateIsOkPromise, DisconnectNewPromise, DisconnectBuildPromise, DisconnectParsePromise, DisconnectIsOkPromise, RequestPromise, StatusPromise, DisconnectRequestParsePromise, NoRequestPromise, DisconnectResponseNewPromise, DisconnectResponseBuildPromise};
+ghost use Rattle.connect.specs.Channel.{StateNewPromise, StateBuildPromise, StateParsePromise, StateIsOkPromise, DisconnectNewPromise, DisconnectBuildPromise, DisconnectParsePromise, DisconnectIsOkPromise, RequestPromise, StatusPromise, DisconnectRequestParsePromise, DisconnectResponseNewPromise, DisconnectResponseBuildPromise};
 
+use crate::endpoint;
 use constants::ServiceType;
 use hpai::Hpai;
 use wire::{Fault, Refusal};
@@ -21,14 +22,6 @@ pub struct ConnectionStateResponse {
 pub struct DisconnectRequest {
     pub channel_id: u8,
     pub control_endpoint: Hpai,
-}
-
-// It holds an array, so a struct has the number beside it.
-#[derive(Clone, Copy)]
-pub struct DisconnectRequestAnswer {
-    pub number: u8,
-    pub request: DisconnectRequest,
-    pub offset: usize,
 }
 
 #[derive(Clone, Copy)]
@@ -71,13 +64,8 @@ impl ConnectionStateResponse {
     pub fn parse(data: &[u8]) -> Result<ConnectionStateResponse, Fault>
         ensures { StateParsePromise «data».now result }
     {
-        match read_status(data) {
-            Ok(s) => Ok(ConnectionStateResponse {
-                channel_id: s.channel_id,
-                status: s.status,
-            }),
-            Err(fault) => Err(fault),
-        }
+        let Status { channel_id, status } = read_status(data)?;
+        Ok(ConnectionStateResponse { channel_id, status })
     }
 
     pub fn is_ok(self) -> bool
@@ -110,26 +98,20 @@ impl DisconnectRequest {
     }
 
     // A request that the gateway sent; its reserved byte is not looked at.
-    pub fn parse(data: &[u8]) -> DisconnectRequestAnswer
+    pub fn parse(data: &[u8]) -> Result<DisconnectRequest, Fault>
         ensures { DisconnectRequestParsePromise «data».now result }
     {
         if data.len() < 10 {
-            return no_request(Refusal::BufferTooSmall.number(), data.len());
+            return Err(Fault {
+                why: Refusal::BufferTooSmall,
+                at: data.len(),
+            });
         }
-        let answer = Hpai::parse(&data[2..10]);
-        if answer.number != 0 {
-            return no_request(answer.number, 2 + answer.offset);
-        }
-        let control_endpoint = answer.hpai;
-        let request = DisconnectRequest {
+        let control_endpoint = endpoint::read(data)?;
+        Ok(DisconnectRequest {
             channel_id: data[0],
             control_endpoint,
-        };
-        DisconnectRequestAnswer {
-            number: 0,
-            request,
-            offset: 0,
-        }
+        })
     }
 }
 
@@ -151,13 +133,8 @@ impl DisconnectResponse {
     pub fn parse(data: &[u8]) -> Result<DisconnectResponse, Fault>
         ensures { DisconnectParsePromise «data».now result }
     {
-        match read_status(data) {
-            Ok(s) => Ok(DisconnectResponse {
-                channel_id: s.channel_id,
-                status: s.status,
-            }),
-            Err(fault) => Err(fault),
-        }
+        let Status { channel_id, status } = read_status(data)?;
+        Ok(DisconnectResponse { channel_id, status })
     }
 
     pub fn is_ok(self) -> bool
@@ -195,24 +172,4 @@ fn read_status(data: &[u8]) -> Result<Status, Fault>
         channel_id: data[0],
         status: data[1],
     })
-}
-
-fn no_request(number: u8, offset: usize) -> DisconnectRequestAnswer
-    ensures { NoRequestPromise number offset result }
-{
-    let control_endpoint = Hpai {
-        structure_length: 0,
-        host_protocol: 0,
-        ip_address: [0, 0, 0, 0],
-        port: 0,
-    };
-    let request = DisconnectRequest {
-        channel_id: 0,
-        control_endpoint,
-    };
-    DisconnectRequestAnswer {
-        number,
-        request,
-        offset,
-    }
 }

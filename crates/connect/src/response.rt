@@ -1,9 +1,10 @@
-// The answer to a connect request. It holds arrays, so a struct has the number beside it.
-ghost use Rattle.connect.specs.Response.{ParsePromise, ParseStandardPromise, IsOkPromise, IndividualAddressPromise, RefusedPromise, BarePromise};
+// The answer to a connect request.
+ghost use Rattle.connect.specs.Response.{ParsePromise, ParseStandardPromise, IsOkPromise, IndividualAddressPromise, BarePromise};
 
+use crate::endpoint;
 use address::IndividualAddress;
 use hpai::Hpai;
-use wire::Refusal;
+use wire::{Fault, Refusal};
 
 #[derive(Clone, Copy)]
 pub struct ConnectResponse {
@@ -13,56 +14,41 @@ pub struct ConnectResponse {
     pub crd: [u8; 4],
 }
 
-#[derive(Clone, Copy)]
-pub struct ConnectResponseAnswer {
-    pub number: u8,
-    pub response: ConnectResponse,
-    pub offset: usize,
-}
-
 impl ConnectResponse {
     // Fourteen bytes are needed whatever the status.
-    pub fn parse(data: &[u8]) -> ConnectResponseAnswer
+    pub fn parse(data: &[u8]) -> Result<ConnectResponse, Fault>
         ensures { ParsePromise «data».now result }
     {
         if data.len() < 14 {
-            return refused(Refusal::BufferTooSmall.number(), data.len());
+            return Err(Fault {
+                why: Refusal::BufferTooSmall,
+                at: data.len(),
+            });
         }
-        let answer = Hpai::parse(&data[2..10]);
-        if answer.number != 0 {
-            return refused(answer.number, 2 + answer.offset);
-        }
-        let data_endpoint = answer.hpai;
+        let data_endpoint = endpoint::read(data)?;
         let crd = [data[10], data[11], data[12], data[13]];
-        let response = ConnectResponse {
+        Ok(ConnectResponse {
             channel_id: data[0],
             status: data[1],
             data_endpoint,
             crd,
-        };
-        ConnectResponseAnswer {
-            number: 0,
-            response,
-            offset: 0,
-        }
+        })
     }
 
     // In KNX's own form a response that refuses ends behind its status.
-    pub fn parse_standard(data: &[u8]) -> ConnectResponseAnswer
+    pub fn parse_standard(data: &[u8]) -> Result<ConnectResponse, Fault>
         ensures { ParseStandardPromise «data».now result }
     {
         if data.len() < 2 {
-            return refused(Refusal::BufferTooSmall.number(), data.len());
+            return Err(Fault {
+                why: Refusal::BufferTooSmall,
+                at: data.len(),
+            });
         }
         if data[1] == 0 {
             return ConnectResponse::parse(data);
         }
-        let response = bare(data[0], data[1]);
-        ConnectResponseAnswer {
-            number: 0,
-            response,
-            offset: 0,
-        }
+        Ok(bare(data[0], data[1]))
     }
 
     pub fn is_ok(self) -> bool
@@ -77,17 +63,6 @@ impl ConnectResponse {
     {
         let crd = self.crd;
         IndividualAddress::from_u16(wire::word_at(&crd, 2))
-    }
-}
-
-fn refused(number: u8, offset: usize) -> ConnectResponseAnswer
-    ensures { RefusedPromise number offset result }
-{
-    let response = bare(0, 0);
-    ConnectResponseAnswer {
-        number,
-        response,
-        offset,
     }
 }
 

@@ -1,6 +1,6 @@
 -- 01, "`Hpai`": 8 bytes: length, protocol, address (4), port. Assumes nothing.
-use Rattle.std.specs.Prelude.{ℕ, ◌≡◌, refl, List, [], ◌∷◌, ◌++◌, length, get_or, Result}
-use Rattle.wire.specs.Told.{Told, refused, Check, ◌⇒◌, differs}
+use Rattle.std.specs.Prelude.{ℕ, ◌≡◌, refl, List, [], ◌∷◌, ◌++◌, length, get_or, Result, Ok, Err}
+use Rattle.wire.specs.Told.{Told, done, refused, Check, ◌⇒◌, differs}
 use Rattle.wire.specs.Writing.{Writes, room}
 use Rattle.wire.specs.Layout.{Field, byte, word, run, size, put}
 use Rattle.wire.specs.Format.{Format, checks_of, offsets_of, found_in, read_by01}
@@ -46,7 +46,8 @@ abbrev pub offsets : ℕ → List ℕ
 offsets n = offsets_of format n
 
 abbrev pub told : Result Hpai Fault → Told
-told r = record { number = r.number; values = values r.hpai; start = 0; end = 0; offset = r.offset }
+told (Ok h) = done (values h)
+told (Err e) = refused 7 e
 
 abbrev pub parse_by01 : List ℕ → Told
 parse_by01 s = read_by01 format s
@@ -57,10 +58,6 @@ parse_where s = found_in format s (parse_by01 s)
 
 abbrev pub ParsePromise : List ℕ → Result Hpai Fault → Type 0
 ParsePromise s r = told r ≡ parse_where s
-
--- seven zeros beside the number
-abbrev pub RefusedPromise : Fault → Result Hpai Fault → Type 0
-RefusedPromise e r = told r ≡ refused 7 e
 
 -- for IPv4 over UDP
 abbrev pub NewPromise : List ℕ → ℕ → Hpai → Type 0

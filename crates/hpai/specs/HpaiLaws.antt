@@ -1,9 +1,9 @@
 -- An Hpai both ways: what is written is read back, what is accepted has the layout of its answer; and no second answer. Assumes nothing.
-use Rattle.std.specs.Prelude.{ℕ, ◌-◌, ◌≡◌, refl, List, [], ◌∷◌, ◌++◌, length, get_or, take, drop, Result, Ok}
+use Rattle.std.specs.Prelude.{ℕ, ◌-◌, ◌≡◌, refl, List, [], ◌∷◌, ◌++◌, length, get_or, take, drop, Result, Ok, Err}
 use Rattle.std.proofs.Common.{arith, sym, ap, ◌∙◌, length-append, eq-eqb}
 use Rattle.std.proofs.Math.Seq.{get_or-append_seam, take-append_seam}
 use Rattle.wire.specs.Told.{Told}
-use Rattle.wire.specs.ToldLaws.{one_to_one, same}
+use Rattle.wire.specs.ToldLaws.{one_to_one, answer_of, back_refused, same}
 use Rattle.wire.specs.Layout.{high_of, low_of, run_at, put}
 use Rattle.wire.specs.FormatLaws as FormatLaws
 use Rattle.wire.specs.LayoutLaws.{Bytes, run-all, length-put}
@@ -43,8 +43,16 @@ hpai_of_values h =
     let k : length (values h) - 3 ≡ length ip = omega (arith, length-append ip (h.port ∷ [])) in
     rw (k, take-append_seam ip (h.port ∷ []), get_or-append_seam ip h.port [] 0)
 
+answered : List ℕ → Result Hpai Fault
+answered vs = Ok (hpai_of vs)
+
+told_back : (r : Result Hpai Fault) → answer_of answered Err (told r) ≡ r
+unfolding answered
+told_back (Ok h) = ap Ok (hpai_of_values h)
+told_back (Err e) = back_refused answered Err 7 e
+
 pub told_one : (r q : Result Hpai Fault) → told r ≡ told q → r ≡ q
-told_one = one_to_one told (λ t. record { number = t.number; hpai = hpai_of t.values; offset = t.offset }) (λ r. ap (λ (h : Hpai). record { number = r.number; hpai = h; offset = r.offset }) (hpai_of_values r.hpai))
+told_one = one_to_one told (answer_of answered Err) told_back
 
 pub parse_one : (s : List ℕ) (r q : Result Hpai Fault) → ParsePromise s r → ParsePromise s q → r ≡ q
 parse_one s r q a b = told_one r q (same a b)
@@ -60,18 +68,15 @@ pub record Proper (h : Hpai) : Type 0 where
   pub length_8 : h.structure_length ≡ 8
   pub address_4 : length h.ip_address ≡ 4
 
-abbrev pub accepted : Hpai → Result Hpai Fault
-accepted h = record { number = 0; hpai = h; offset = 0 }
-
-pub reads_back : (h : Hpai) (rest : List ℕ) → Proper h → parse_where (layout h ++ rest) ≡ told (accepted h)
+pub reads_back : (h : Hpai) (rest : List ℕ) → Proper h → parse_where (layout h ++ rest) ≡ told (Ok h)
 reads_back h rest p = FormatLaws.reads_back format (values h) rest (length-values h p.address_4) (simp (eq-eqb _ _ p.length_8))
 
 pub encode_parse : (h : Hpai) (b : List ℕ) (n : ℕ) (after : List ℕ) (r : Result Hpai Fault)
-    → Proper h → EncodePromise h b (Ok n) after → ParsePromise after r → r ≡ accepted h
+    → Proper h → EncodePromise h b (Ok n) after → ParsePromise after r → r ≡ Ok h
 encode_parse h b n after r p e q =
-    told_one r (accepted h) (q ∙ ap parse_where (wrote (encode_checks (length b)) (layout h) b n after e).bytes ∙ reads_back h (drop (length (layout h)) b) p)
+    told_one r (Ok h) (q ∙ ap parse_where (wrote (encode_checks (length b)) (layout h) b n after e).bytes ∙ reads_back h (drop (length (layout h)) b) p)
 
 -- ---- read, then written
 
-pub has_layout : (s : List ℕ) (h : Hpai) → Bytes s → ParsePromise s (accepted h) → take 8 s ≡ layout h
-has_layout s h b q = let x = FormatLaws.accepted format s (told (accepted h)) refl q in x.bytes b ∙ ap (λ (t : Told). put fields t.values) (sym x.told_is)
+pub has_layout : (s : List ℕ) (h : Hpai) → Bytes s → ParsePromise s (Ok h) → take 8 s ≡ layout h
+has_layout s h b q = let x = FormatLaws.accepted format s (told (Ok h)) refl q in x.bytes b ∙ ap (λ (t : Told). put fields t.values) (sym x.told_is)

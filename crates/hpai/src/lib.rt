@@ -1,7 +1,7 @@
-// Host protocol address information: frame.rs, `Hpai`. It holds an array, so its answer is a struct with the number beside it.
+// Host protocol address information: frame.rs, `Hpai`.
 #![tactic(auto)]
 
-ghost use Rattle.hpai.specs.Hpai.{NewPromise, ParsePromise, EncodePromise, ToBytesPromise, RefusedPromise};
+ghost use Rattle.hpai.specs.Hpai.{NewPromise, ParsePromise, EncodePromise, ToBytesPromise};
 
 use constants::IPV4_UDP;
 use wire::{Fault, Refusal};
@@ -12,13 +12,6 @@ pub struct Hpai {
     pub host_protocol: u8,
     pub ip_address: [u8; 4],
     pub port: u16,
-}
-
-#[derive(Clone, Copy)]
-pub struct HpaiAnswer {
-    pub number: u8,
-    pub hpai: Hpai,
-    pub offset: usize,
 }
 
 impl Hpai {
@@ -35,35 +28,29 @@ impl Hpai {
         }
     }
 
-    pub fn parse(data: &[u8]) -> HpaiAnswer
+    pub fn parse(data: &[u8]) -> Result<Hpai, Fault>
         ensures { ParsePromise «data».now result }
     {
         if data.len() < Self::SIZE {
-            return refused(Fault {
+            return Err(Fault {
                 why: Refusal::BufferTooSmall,
                 at: data.len(),
             });
         }
         let structure_length = data[0];
         if structure_length != 8 {
-            return refused(Fault {
+            return Err(Fault {
                 why: Refusal::InvalidFrame,
                 at: 0,
             });
         }
         let ip_address = [data[2], data[3], data[4], data[5]];
-        let port = wire::word_at(data, 6);
-        let hpai = Hpai {
+        Ok(Hpai {
             structure_length,
             host_protocol: data[1],
             ip_address,
-            port,
-        };
-        HpaiAnswer {
-            number: 0,
-            hpai,
-            offset: 0,
-        }
+            port: wire::word_at(data, 6),
+        })
     }
 
     // Writes the fields as they are, the length too.
@@ -88,23 +75,5 @@ impl Hpai {
             wire::high(self.port),
             wire::low(self.port),
         ]
-    }
-}
-
-fn refused(fault: Fault) -> HpaiAnswer
-    ensures { RefusedPromise fault result }
-{
-    let why = fault.why;
-    let number = why.number();
-    let hpai = Hpai {
-        structure_length: 0,
-        host_protocol: 0,
-        ip_address: [0, 0, 0, 0],
-        port: 0,
-    };
-    HpaiAnswer {
-        number,
-        hpai,
-        offset: fault.at,
     }
 }

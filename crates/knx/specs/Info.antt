@@ -1,5 +1,5 @@
 -- What the border promises of additional information: the rules of the crates below, told in numbers. Assumes nothing.
-use Rattle.std.specs.Prelude.{ℕ, ◌≡◌, List, [], ◌∷◌, length, Result}
+use Rattle.std.specs.Prelude.{ℕ, ◌≡◌, List, [], ◌∷◌, length, Result, Option}
 use Rattle.wire.specs.Told.{Told, Check}
 use Rattle.wire.specs.Coding.{check}
 use Rattle.wire.specs.Writing.{Writes}
@@ -9,7 +9,6 @@ use Rattle.constants.specs.MessageCodes.{message_codes}
 use Rattle.additional_info.specs.InfoType.{type_of}
 use Rattle.additional_info.specs.Area as Area
 use Rattle.additional_info.specs.Appending as Appending
-use Rattle.additional_info.specs.declared.area.AdditionalInfoAnswer.{AdditionalInfoAnswer}
 use Rattle.cemi.specs.Cemi as Cemi
 use Rattle.knx.specs.Building.{Tells}
 use Rattle.knx.specs.declared.building.KnxWritten.{KnxWritten}
@@ -17,6 +16,7 @@ use Rattle.knx.specs.declared.info.KnxPart.{KnxPart}
 use Rattle.knx.specs.declared.info.KnxAdditionalInfo.{KnxAdditionalInfo}
 use Rattle.knx.specs.declared.info.KnxCount.{KnxCount}
 use Rattle.wire.specs.declared.refusals.Fault.{Fault}
+use Rattle.additional_info.specs.declared.area.AdditionalInfo.{AdditionalInfo}
 
 -- where the area stands in a cEMI frame
 abbrev pub told_part : KnxPart → Told
@@ -57,7 +57,7 @@ BuildPromise code area rest b r after = Tells (Writes (build_checks code area (l
 abbrev pub PartPromise : Result View Fault → KnxPart → Type 0
 PartPromise v r = told_part r ≡ Parts.told v
 
-abbrev pub RecordPromise : AdditionalInfoAnswer → KnxAdditionalInfo → Type 0
+abbrev pub RecordPromise : Result (Option AdditionalInfo) Fault → KnxAdditionalInfo → Type 0
 RecordPromise a r = told r ≡ Area.told a
 
 abbrev pub NonePromise : ℕ → ℕ → KnxAdditionalInfo → Type 0

@@ -31,7 +31,7 @@ abbrev pub with_body : Told → Told
 with_body t = record { number = t.number; values = t.values; start = body_start t.number; end = get_or t.values 1 0; offset = t.offset }
 
 body_of_lem : (v : Verdict) (vs : List ℕ) → with_body (answer v (done (service_in vs ∷ total_in vs ∷ []))) ≡ answer v (frame_in vs)
-body_of_lem (Ok tt) vs = refl
+body_of_lem (Ok _) vs = refl
 body_of_lem (Err e) vs = simp (ne_eqb (number_of e) 0 (never_done e))
 
 pub judged-frame : (s : List ℕ) (j : Result Judged Fault) → Judging.JudgePromise s j → with_body (Judging.told j) ≡ frame_where s

@@ -9,6 +9,7 @@ use hpai::Hpai;
 use ldata::{Counting, LDataBuilder};
 use pci::Tpci;
 use tunnelling::{ConnectionHeader, Form, TunnelingAck, TunnelingRequest};
+use wire::Refusal;
 
 // How many bytes were written, and a number of 01. The offset is 0: a builder reads no datagram.
 #[repr(C)]

@@ -39,48 +39,40 @@ impl LDataFields {
         let tpci_byte = wire::byte_at(data, 7);
         let tpci = Tpci::from_byte(tpci_byte);
         let is_data = tpci.is_data();
-        match stands(counting, data.len(), is_data, npdu_length) {
-            Ok(()) => {
-                let ctrl1 = ControlField1::from_u8(wire::byte_at(data, 0));
-                let ctrl2 = ControlField2::from_u8(wire::byte_at(data, 1));
-                let source = IndividualAddress::from_u16(wire::word_at(data, 2));
-                let destination_raw = wire::word_at(data, 4);
-                let apci = apci_of(counting, is_data, tpci_byte, wire::byte_at(data, 8));
-                Ok(LDataFields {
-                    ctrl1,
-                    ctrl2,
-                    source,
-                    destination_raw,
-                    npdu_length,
-                    tpci,
-                    apci,
-                })
-            }
-            Err(fault) => Err(fault),
-        }
+        stands(counting, data.len(), is_data, npdu_length)?;
+        let ctrl1 = ControlField1::from_u8(wire::byte_at(data, 0));
+        let ctrl2 = ControlField2::from_u8(wire::byte_at(data, 1));
+        let source = IndividualAddress::from_u16(wire::word_at(data, 2));
+        let destination_raw = wire::word_at(data, 4);
+        let apci = apci_of(counting, is_data, tpci_byte, wire::byte_at(data, 8));
+        Ok(LDataFields {
+            ctrl1,
+            ctrl2,
+            source,
+            destination_raw,
+            npdu_length,
+            tpci,
+            apci,
+        })
     }
 
     // Where the application data stands in the slice, in the crate's count.
-    pub fn data(self, data: &[u8]) -> View
+    pub fn data(self, data: &[u8]) -> Result<View, Fault>
         ensures { DataPromise self «data».now result }
     {
         self.data_in(Counting::Crate, data)
     }
 
-    pub fn data_in(self, counting: Counting, data: &[u8]) -> View
+    pub fn data_in(self, counting: Counting, data: &[u8]) -> Result<View, Fault>
         ensures { DataInPromise counting self «data».now result }
     {
         let tpci = self.tpci;
         let is_data = tpci.is_data();
-        match stands(counting, data.len(), is_data, self.npdu_length) {
-            Ok(()) => View {
-                number: 0,
-                start: data_start(is_data),
-                end: counting.data_end(self.npdu_length),
-                offset: 0,
-            },
-            Err(fault) => View::refused(fault),
-        }
+        stands(counting, data.len(), is_data, self.npdu_length)?;
+        Ok(View {
+            start: data_start(is_data),
+            end: counting.data_end(self.npdu_length),
+        })
     }
 
     pub fn data_part(self, data: &[u8]) -> &[u8]
@@ -92,8 +84,7 @@ impl LDataFields {
     pub fn data_part_in(self, counting: Counting, data: &[u8]) -> &[u8]
         ensures { DataPartInPromise counting self «data».now result.now }
     {
-        let view = self.data_in(counting, data);
-        wire::part(data, view.start, view.end)
+        wire::shown(data, self.data_in(counting, data))
     }
 
     pub fn destination_group(self) -> Option<GroupAddress>

@@ -2,7 +2,7 @@
 ghost use Rattle.std.specs.Prelude.{◌≡◌};
 ghost use Rattle.replay.specs.Telling.{RefusedPromise, FewPromise, LocatedPromise, FlagPromise, MovedPromise, lent, WrittenPromise, RemainderPromise};
 
-use wire::Fault;
+use wire::{Fault, Refusal};
 
 // A number of 01 and the first `count` of the values; `lends` where the buffer is shown too; the offsets of the refusals that the line tells.
 #[derive(Clone, Copy)]

@@ -3,6 +3,7 @@ use constants::ServiceType;
 use frame::{FrameBuilder, FrameFields};
 use header::KnxnetIpHeader;
 use replay::Told;
+use wire::Fault;
 
 pub(crate) fn answer(call: u8, args: &[u8], buf: &mut [u8]) -> Told {
     match call {

@@ -4,7 +4,7 @@ use cemi::CEMIFrame;
 use control::{ControlField1, ControlField2};
 use ldata::{Counting, LDataBuilder, LDataFields};
 use replay::Told;
-use wire::View;
+use wire::{View, Refusal, Fault};
 
 pub(crate) fn answer(call: u8, args: &[u8], buf: &mut [u8]) -> Told {
     match call {

@@ -2,6 +2,8 @@
 use frame::FrameFields;
 use header::KnxnetIpHeader;
 use replay::Told;
+use wire::Fault;
+use constants::ServiceType;
 
 // Length, version, service by its number, total.
 pub(crate) fn fields_at(args: &[u8]) -> FrameFields {

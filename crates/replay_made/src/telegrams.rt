@@ -4,7 +4,7 @@ use cemi::CEMIFrame;
 use control::{ControlField1, ControlField2};
 use ldata::{Counting, LDataFields};
 use replay::Told;
-use wire::View;
+use wire::{View, Fault};
 
 fn frame_at(args: &[u8]) -> CEMIFrame {
     let message_code = variants::message_code_of(wire::byte_at(args, 0));

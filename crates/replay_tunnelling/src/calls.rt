@@ -1,6 +1,7 @@
 // The calls of services.rs that tunnel, 22 to 27, and an acknowledgement in KNX's own form, 71 and 72.
 use replay::Told;
 use tunnelling::{ConnectionHeader, Form, TunnelingAck, TunnelingRequest};
+use wire::Fault;
 
 pub(crate) fn answer(call: u8, args: &[u8], buf: &mut [u8]) -> Told {
     match call {

@@ -36,7 +36,7 @@ told (Ack channel n status) = done (2 ∷ channel ∷ n ∷ status ∷ [])
 told (Refused e) = refused 4 e
 
 abbrev pub heard_or : Standing → Heard → Heard
-heard_or (Ok tt) h = h
+heard_or (Ok _) h = h
 heard_or (Err f) h = Refused f
 
 -- of what a connection header holds: channel, then number

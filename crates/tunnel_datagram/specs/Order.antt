@@ -67,7 +67,7 @@ module _ (f : Form) where
       go false false = refl
 
   after : (v w : Standing) (h : Heard) → heard_or v (heard_or w h) ≡ heard_or (and_then v w) h
-  after (Ok tt) w h = refl
+  after (Ok _) w h = refl
   after (Err e) w h = refl
 
   -- number and offset are those of the first broken check of the whole list

@@ -33,7 +33,7 @@ unrefused true e out t a z = absurd (never_done e z)
 unrefused false e out t a z = refl
 
 accepted : (v : Verdict) (out : List ℕ) (t : Tunnel) (a : After) → (or_refused v out t a).0.0.number ≡ 0 → or_refused v out t a ≡ a
-accepted (Ok tt) out t a z = refl
+accepted (Ok _) out t a z = refl
 accepted (Err e) out t a z = absurd (never_done e z)
 
 -- ---- a send that was answered 0 wrote its request, which is heard

@@ -90,7 +90,7 @@ abbrev pub reaction_told : Reaction → ℕ → Told
 reaction_told x n = record { number = 0; values = said_of x.said ∷ n ∷ []; start = x.start; end = x.end; offset = 0 }
 
 abbrev pub reacted : Form → Verdict → Table → ℕ → ℕ → ℕ → Reaction → List ℕ → Outcome × List Place
-reacted f (Ok tt) t i b n x out = ((reaction_told x (length (ack f b n)), onto out (ack f b n)), set t.places i (record { hold = Held b x.tunnel }))
+reacted f (Ok _) t i b n x out = ((reaction_told x (length (ack f b n)), onto out (ack f b n)), set t.places i (record { hold = Held b x.tunnel }))
 reacted f (Err e) t i b n x out = (refuses e out, t.places)
 
 abbrev pub ReactPromise : Form → Table → ℕ → ℕ → ℕ → Reaction → List ℕ → Called → List ℕ → Type 0

@@ -109,7 +109,7 @@ module _ (T : Table) (b i : ℕ) (d : Place) (found : seek (holds kind b) 0 T.pl
   -- an acknowledgement, or no room for one
   pub at_react : (k : ℕ) (form : Form) (v : Verdict) (n : ℕ) (x : Reaction) (f : Tunnel → After) (out : List ℕ)
       → f t ≡ or_refused v out t ((reaction_told x (length (ack form b n)), onto out (ack form b n)), some x.tunnel) → reacted form v T i b n x out ≡ on k b f out T.places
-  at_react k form (Ok tt) n x f out e = ap (λ (a : After). (a.0, set T.places i (placed kind b a.1))) (sym e) ∙ rule k f out
+  at_react k form (Ok _) n x f out e = ap (λ (a : After). (a.0, set T.places i (placed kind b a.1))) (sym e) ∙ rule k f out
   at_react k form (Err w) n x f out e = at_kept k f out (saying T (number_of w) Said.Nothing) out e refl
 
   -- a step of the rules

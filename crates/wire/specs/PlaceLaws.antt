@@ -105,7 +105,7 @@ decides_behind [] r qs e s q = ap (λ (v : Standing). and_then (later r.start v)
 decides_behind (p ∷ rs) r qs e s q = go (later p.start (standing p.checks p.offsets)) s (λ t. decides_behind rs r qs e t q)
   where
     go : (v : Standing) → and_then v (says_all rs) ≡ Ok tt → (says_all rs ≡ Ok tt → says_all (rs ++ r ∷ qs) ≡ Err (later_fault r.start e)) → and_then v (says_all (rs ++ r ∷ qs)) ≡ Err (later_fault r.start e)
-    go (Ok tt) t behind = behind t
+    go (Ok _) t behind = behind t
     go (Err f) t behind = never cc
 
 pub every_part : (rs : List Reader) (r : Reader) (qs : List Reader) (e : Fault) → says_all rs ≡ Ok tt → standing r.checks r.offsets ≡ Err e
@@ -115,7 +115,7 @@ every_part rs r qs e s q = one_reader (rs ++ r ∷ qs) ∙ decides_behind rs r q
 -- ---- from a standing to the answer, and back
 
 stands_at_lem : (v : Verdict) (o : ℕ) → stands_at v o ≡ Ok tt → v ≡ Ok tt
-stands_at_lem (Ok tt) o q = refl
+stands_at_lem (Ok _) o q = refl
 stands_at_lem (Err e) o q = never cc
 
 pub stands-accepted : (cs : List Check) (os : List ℕ) → standing cs os ≡ Ok tt → verdict cs ≡ Ok tt
@@ -141,7 +141,7 @@ pub located_fall : (cs : List Check) (os : List ℕ) (t : Told) (f : Fault) → 
 located_fall cs os t f q = go (verdict cs) (offset_by cs os) q
   where
     go : (v : Verdict) (o : ℕ) → stands_at v o ≡ Err f → at o (answer v t) ≡ refused (length t.values) f
-    go (Ok tt) o p = never cc
+    go (Ok _) o p = never cc
     go (Err e) o p = let h : record { why = e; at = o } ≡ f = cc in ap (refused (length t.values)) h
 
 -- a fall is the verdict's refusal, at the offset of the check that decided
@@ -149,7 +149,7 @@ pub falls_so : (cs : List Check) (os : List ℕ) (f : Fault) → standing cs os 
 falls_so cs os f q = go (verdict cs) (offset_by cs os) q
   where
     go : (v : Verdict) (o : ℕ) → stands_at v o ≡ Err f → (v ≡ Err f.why) × (o ≡ f.at)
-    go (Ok tt) o p = never cc
+    go (Ok _) o p = never cc
     go (Err e) o p =
         let why : e ≡ f.why = cc in
         let at-so : o ≡ f.at = cc in
@@ -160,7 +160,7 @@ pub was_fallen : (cs : List Check) (os : List ℕ) (t : Told) (k : ℕ) (f : Fau
 was_fallen cs os t k f z q = go (verdict cs) (offset_by cs os) q
   where
     go : (v : Verdict) (o : ℕ) → refused k f ≡ at o (answer v t) → stands_at v o ≡ Err f
-    go (Ok tt) o p = absurd (never_done f.why (ap (λ (u : Told). u.number) p ∙ z))
+    go (Ok _) o p = absurd (never_done f.why (ap (λ (u : Told). u.number) p ∙ z))
     go (Err e) o p =
         let same-why : f.why ≡ e = number_one f.why e (ap (λ (u : Told). u.number) p) in
         let same_at : f.at ≡ o = ap (λ (u : Told). u.offset) p in
@@ -176,7 +176,7 @@ pub fault_within : (m : ℕ) (cs : List Check) (os : List ℕ) (f : Fault) → W
 fault_within m cs os f w q = go (verdict cs) (offset_by cs os) (within_at m os (place cs) w) q
   where
     go : (v : Verdict) (o : ℕ) → o ≤ m → stands_at v o ≡ Err f → f.at ≤ m
-    go (Ok tt) o l p = never cc
+    go (Ok _) o l p = never cc
     go (Err e) o l p = let h : o ≡ f.at = cc in omega arith
 
 -- ---- an answer that has the number beside its record
@@ -191,7 +191,7 @@ was_broken : {o : ℕ} (cs : List Check) (t u : Told) → t.number ≡ 0 → u �
 was_broken cs t u z q n = go (verdict cs) refl (ap (λ (x : Told). x.number) q)
   where
     go : (v : Verdict) → verdict cs ≡ v → u.number ≡ (answer v t).number → place cs < length cs
-    go (Ok tt) k p = absurd (n (p ∙ z))
+    go (Ok _) k p = absurd (n (p ∙ z))
     go (Err e) k p = some_broken cs e k
 
 moved_at : (k : ℕ) (os : List ℕ) (i : ℕ) → i < length os → get_or (moved k os) i 0 ≡ k + get_or os i 0
@@ -219,7 +219,7 @@ pub judged-nowhere : (cs : List Check) (t : Told) → t.offset ≡ 0 → (judged
 judged-nowhere cs t z = go (verdict cs)
   where
     go : (v : Verdict) → (answer v t).offset ≡ 0
-    go (Ok tt) = z
+    go (Ok _) = z
     go (Err e) = refl
 
 -- ---- one check alone

@@ -40,7 +40,7 @@ Standing = Result (Unit {0}) Fault
 
 -- a verdict with its offset, and what the checks say with the offset of the one that decided
 abbrev pub stands_at : Verdict → ℕ → Standing
-stands_at (Ok tt) o = Ok tt
+stands_at (Ok _) o = Ok tt
 stands_at (Err e) o = Err (record { why = e; at = o })
 
 abbrev pub standing : List Check → List ℕ → Standing
@@ -56,12 +56,12 @@ abbrev pub later_fault : ℕ → Fault → Fault
 later_fault k f = record { why = f.why; at = k + f.at }
 
 abbrev pub later : ℕ → Standing → Standing
-later k (Ok tt) = Ok tt
+later k (Ok _) = Ok tt
 later k (Err f) = Err (later_fault k f)
 
 -- the whole: what stands before the part, then the part
 abbrev pub and_then : Standing → Standing → Standing
-and_then (Ok tt) t = t
+and_then (Ok _) t = t
 and_then (Err f) t = Err f
 
 -- a reader of a part: where the part starts, its checks, and an offset beside each

@@ -1,6 +1,6 @@
--- One law of `CemiLaws` for each way out; a refusal of L_Data is moved by where it starts. Assumes nothing.
+-- What L_Data's parse answers of the rest; its refusal is moved by where the rest starts. Assumes nothing.
 use Rattle.std.specs.Prelude.{Err}
-use Rattle.std.proofs.Common.{ℕ, ◌+◌, ap, sym, ◌∙◌, arith, not, length}
+use Rattle.std.proofs.Common.{ℕ, ◌+◌, ◌≡◌, ap, sym, ◌∙◌, arith, not, length}
 use Rattle.wire.specs.Parts.{part_of}
 use Rattle.wire.specs.Places.{later_fault}
 use Rattle.wire.specs.PlaceLaws.{stands-accepted}
@@ -8,50 +8,43 @@ use Rattle.wire.specs.PartLaws.{part_most}
 use Rattle.ldata.specs.Count.{count_by}
 use Rattle.ldata.specs.LData.{told, parse_where}
 use Rattle.cemi.specs.Cemi.{checks, offsets, info_length, service_info}
-use Rattle.cemi.specs.CemiLaws.{too_short, long_enough, no_cemi, no_ldata, no_info, on-rest, off_rest, rest_within}
+use Rattle.cemi.specs.CemiLaws.{start-told, on-rest, off_rest, rest_within}
 use Rattle.cemi.proofs.CEMIFrame.as_ldata_in.Goals as goal
+use Rattle.cemi.proofs.CEMIFrame.as_ldata_in.Goals.{After-part}
 
-pub returns-then-not-is_ldata : goal.returns-then-not-is_ldata
-returns-then-not-is_ldata c =
-    let s = c.args.«data».now in
-    let held = stands-accepted (checks s) (offsets s) (sym c.in-Stands.ensures) in
-    no_ldata (count_by c.args.counting) c.args.self s held (ap not (sym c.is_ldata.ensures ∙ c.if-not-is_ldata.true))
+-- the rest starts behind the additional information
+start-is : (c : After-part) → c.in_ok-start.start ≡ 2 + info_length c.args.«data».now
+start-is c = (start-told c.args.«data».now c.in_ok-start.start c.in_ok-start.ensures).0
 
-pub returns-then-data-start : goal.returns-then-data-start
-returns-then-data-start c =
+rest-is : (c : After-part) → c.part.result.now ≡ service_info c.args.«data».now
+rest-is c =
     let s = c.args.«data».now in
-    let held = stands-accepted (checks s) (offsets s) (sym c.in-Stands.ensures) in
-    let this = ap not (sym c.is_ldata.ensures ∙ c.if-not-is_ldata.false) in
-    no_info (count_by c.args.counting) c.args.self s held this (too_short s c.byte_at.result c.byte_at.ensures c.if-data-start.true)
+    c.part.ensures ∙ ap (λ (k : ℕ). part_of s k (length s)) (start-is c)
 
 pub overflow_add-result : goal.overflow_add-result
 overflow_add-result c =
     let s = c.args.«data».now in
+    let start = start-is (goal.at.overflow_add-result c).After-part in
     let C = count_by c.args.counting in
-    let rest = c.part.ensures ∙ ap (λ (k : ℕ). part_of s (2 + k) (length s)) c.byte_at.ensures in
-    let refuses = c.in-Refused.ensures ∙ ap (parse_where C) rest in
-    omega (arith, rest_within C (service_info s) c.in-Refused.fault refuses, part_most s (2 + info_length s) (length s))
+    let refuses = c.in-Err.ensures ∙ ap (parse_where C) (rest-is (goal.at.overflow_add-result c).After-part) in
+    let byte = c.type_inv.«data» 1 in
+    omega (arith, start, byte, rest_within C (service_info s) c.in-Err.fault refuses, part_most s (2 + info_length s) (length s))
 
-pub returns-in-Frame : goal.returns-in-Frame
-returns-in-Frame c =
+pub returns-in-Ok : goal.returns-in-Ok
+returns-in-Ok c =
     let s = c.args.«data».now in
     let C = count_by c.args.counting in
-    let rest = c.part.ensures ∙ ap (λ (k : ℕ). part_of s (2 + k) (length s)) c.byte_at.ensures in
-    let held = stands-accepted (checks s) (offsets s) (sym c.in-Stands.ensures) in
+    let held = stands-accepted (checks s) (offsets s) (sym c.in_ok-stands.ensures) in
     let this = ap not (sym c.is_ldata.ensures ∙ c.if-not-is_ldata.false) in
-    let enough = long_enough s c.byte_at.result c.byte_at.ensures c.if-data-start.false in
-    ap told c.in-Frame.is ∙ on-rest C c.args.self s held this enough c.in-Frame.field-0 (c.in-Frame.ensures ∙ ap (parse_where C) rest)
+    let enough = (start-told s c.in_ok-start.start c.in_ok-start.ensures).1 in
+    on-rest C c.args.self s held this enough c.in-Ok.fields (c.in-Ok.ensures ∙ ap (parse_where C) (rest-is (goal.at.returns-in-Ok c).After-part))
 
-pub returns-in-Refused : goal.returns-in-Refused
-returns-in-Refused c =
+pub returns-in-Err : goal.returns-in-Err
+returns-in-Err c =
     let s = c.args.«data».now in
     let C = count_by c.args.counting in
-    let rest = c.part.ensures ∙ ap (λ (k : ℕ). part_of s (2 + k) (length s)) c.byte_at.ensures in
-    let held = stands-accepted (checks s) (offsets s) (sym c.in-Stands.ensures) in
+    let held = stands-accepted (checks s) (offsets s) (sym c.in_ok-stands.ensures) in
     let this = ap not (sym c.is_ldata.ensures ∙ c.if-not-is_ldata.false) in
-    let enough = long_enough s c.byte_at.result c.byte_at.ensures c.if-data-start.false in
-    ap (λ (k : ℕ). told (Err (later_fault (2 + k) c.in-Refused.fault))) c.byte_at.ensures
-    ∙ off_rest C c.args.self s held this enough c.in-Refused.fault (c.in-Refused.ensures ∙ ap (parse_where C) rest)
-
-pub returns-in-Falls : goal.returns-in-Falls
-returns-in-Falls c = no_cemi (count_by c.args.counting) c.args.self c.args.«data».now c.in-Falls.fault (sym c.in-Falls.ensures)
+    let enough = (start-told s c.in_ok-start.start c.in_ok-start.ensures).1 in
+    ap (λ (k : ℕ). told (Err (later_fault k c.in-Err.fault))) (start-is (goal.at.returns-in-Err c).After-part)
+    ∙ off_rest C c.args.self s held this enough c.in-Err.fault (c.in-Err.ensures ∙ ap (parse_where C) (rest-is (goal.at.returns-in-Err c).After-part))
