@@ -412,11 +412,11 @@ ack_parse = ack_parse_in Form.Crate
 -- ---- datagram
 
 -- tunnel_datagram::hear
-pub datagram_hear : (s : List ℕ) (r : Heard) → Hearing.HearPromise s r → Refusing (Hearing.told r)
+pub datagram_hear : (s : List ℕ) (r : Result Heard Fault) → Hearing.HearPromise s r → Refusing (Hearing.told r)
 datagram_hear s r p = HearingLaws.heard-refusing r
 
 -- tunnel_datagram::hear_in
-pub datagram_hear_in : (f : Form) (s : List ℕ) (r : Heard) → Hearing.HearInPromise f s r → Refusing (Hearing.told r)
+pub datagram_hear_in : (f : Form) (s : List ℕ) (r : Result Heard Fault) → Hearing.HearInPromise f s r → Refusing (Hearing.told r)
 datagram_hear_in f s r p = HearingLaws.heard-refusing r
 
 -- ---- tunnel: a refusal is 11, says nothing and leaves the tunnel
@@ -456,12 +456,12 @@ pub table_calls : (t : Table) (c : Call) (r : Called) (after : List ℕ) → Cal
 table_calls = Compiled.call_refusing
 
 -- tunnel_table::Table::heard
-pub table_heard : (t : Table) (h : Heard) (out : List ℕ) (r : Called) (after : List ℕ) → Table.HeardPromise t h out r after → (r.number ≡ 0 → ⊥)
+pub table_heard : (t : Table) (h : Result Heard Fault) (out : List ℕ) (r : Called) (after : List ℕ) → Table.HeardPromise t h out r after → (r.number ≡ 0 → ⊥)
     → Zeros (Table.told r) × (after ≡ out) × (r.table ≡ t)
 table_heard = Compiled.heard-refusing
 
 -- tunnel_table::Table::heard_in
-pub table_heard_in : (f : Form) (t : Table) (h : Heard) (out : List ℕ) (r : Called) (after : List ℕ) → Table.HeardInPromise f t h out r after → (r.number ≡ 0 → ⊥)
+pub table_heard_in : (f : Form) (t : Table) (h : Result Heard Fault) (out : List ℕ) (r : Called) (after : List ℕ) → Table.HeardInPromise f t h out r after → (r.number ≡ 0 → ⊥)
     → Zeros (Table.told r) × (after ≡ out) × (r.table ≡ t)
 table_heard_in = Compiled.heard_in_refusing
 

@@ -1,7 +1,6 @@
 -- Demand 3, of the compiled table: tunnels in one table do not disturb each other. Calls carry raw datagrams and whole lent outputs; whose call it is, is computed from the bytes; a trace has number, what is said, count, view, offset, the whole output, and what is left of the channel.
-use Rattle.std.specs.Prelude.{ℕ, ◌+◌, ◌≤◌, ◌≡◌, refl, List, [], length, get_or, drop, Ok}
+use Rattle.std.specs.Prelude.{ℕ, ◌+◌, ◌≤◌, ◌≡◌, refl, List, [], length, get_or, drop, Ok, None, Some}
 use Rattle.std.proofs.Common.{arith, sym, ap, subst, ◌∙◌}
-use Rattle.std.proofs.Math.Option.{none, some}
 use Rattle.wire.specs.Parts.{part_of}
 use Rattle.tunnel_datagram.specs.Hearing.{cemi_start, heard_by01}
 use Rattle.tunnel_datagram.specs.declared.hearing.Heard.TheVariants.{Request, Ack}
@@ -50,7 +49,7 @@ pub isolates_from : (l : List Place) → Kept kind kind_laws 8 l → IsolatesAt 
 isolates_from = ModelDemand3.isolates_from kind kind_laws 8
 
 -- whatever the other channels do: two lists with the same calls of B give B the same
-pub no_difference : (before calls others : List Call) (b : ℕ) (p : Tunnel) → (table_of kind 8).look b (reached chan (table_of kind 8) before) ≡ some p
+pub no_difference : (before calls others : List Call) (b : ℕ) (p : Tunnel) → (table_of kind 8).look b (reached chan (table_of kind 8) before) ≡ Some p
     → calls_of chan (names chan b) calls ≡ calls_of chan (names chan b) others
     → table_trace chan (table_of kind 8) (names chan b) b (reached chan (table_of kind 8) before) calls ≡ table_trace chan (table_of kind 8) (names chan b) b (reached chan (table_of kind 8) before) others
 no_difference = ModelDemand3.no_difference kind kind_laws 8
@@ -79,18 +78,18 @@ module _ (start : Table) (begun : EmptyPromise start) (before : List Call) (gs :
   folds = RunLaws.there chan (table_of kind 8) Compiled.Given Compiled.given_as start.places begun before gs ran
 
   -- B's calls then give what the lone tunnel gives
-  pub compiled_isolates : (calls : List Call) (hs : List Compiled.Given) (b : ℕ) (p : Tunnel) → Compiled.Ran here calls hs → (table_of kind 8).look b here ≡ some p
-      → Compiled.seen_by b here calls hs ≡ lone_trace chan (some p) (calls_of chan (names chan b) calls)
+  pub compiled_isolates : (calls : List Call) (hs : List Compiled.Given) (b : ℕ) (p : Tunnel) → Compiled.Ran here calls hs → (table_of kind 8).look b here ≡ Some p
+      → Compiled.seen_by b here calls hs ≡ lone_trace chan (Some p) (calls_of chan (names chan b) calls)
   compiled_isolates = RunLaws.run_isolates chan (table_of kind 8) Compiled.Given Compiled.given_as start.places begun before gs ran isolates
 
   -- whatever the other channels do
   pub compiled_no_difference : (calls others : List Call) (hs is : List Compiled.Given) (b : ℕ) (p : Tunnel) → Compiled.Ran here calls hs → Compiled.Ran here others is
-      → (table_of kind 8).look b here ≡ some p → calls_of chan (names chan b) calls ≡ calls_of chan (names chan b) others
+      → (table_of kind 8).look b here ≡ Some p → calls_of chan (names chan b) calls ≡ calls_of chan (names chan b) others
       → Compiled.seen_by b here calls hs ≡ Compiled.seen_by b here others is
   compiled_no_difference = RunLaws.run_no_difference chan (table_of kind 8) Compiled.Given Compiled.given_as start.places begun before gs ran isolates
 
   -- an opening of B, which is not open, is refused exactly if eight other ids are open, and else starts B afresh
-  pub compiled_opens : (t : Table) (r : Called) (b : ℕ) → t.places ≡ here → CallPromise t (Open b) r [] → (table_of kind 8).look b here ≡ none
+  pub compiled_opens : (t : Table) (r : Called) (b : ℕ) → t.places ≡ here → CallPromise t (Open b) r [] → (table_of kind 8).look b here ≡ None
       → Opening chan (table_of kind 8) 8 b here (Open b) (Compiled.given_as (r, []))
   compiled_opens t r b at p e =
       RunLaws.run-opens chan (table_of kind 8) Compiled.Given Compiled.given_as start.places begun before gs ran 8 opens (Open b) (r, []) b
@@ -121,16 +120,16 @@ module _ (image start : List ℕ) (w : KnxWritten) (emptied : Called.EmptyPromis
   begun : start ≡ empty_image rest
   begun = empty_is image w start emptied done
 
-  pub border_isolates : (calls : List Call) (hs : List KnxRuns.Given) (b : ℕ) (p : Tunnel) → KnxRuns.Ran rest last_image calls hs → (image_table rest).look b last_image ≡ some p
-      → KnxRuns.seen_by rest b last_image calls hs ≡ lone_trace chan (some p) (calls_of chan (names chan b) calls)
+  pub border_isolates : (calls : List Call) (hs : List KnxRuns.Given) (b : ℕ) (p : Tunnel) → KnxRuns.Ran rest last_image calls hs → (image_table rest).look b last_image ≡ Some p
+      → KnxRuns.seen_by rest b last_image calls hs ≡ lone_trace chan (Some p) (calls_of chan (names chan b) calls)
   border_isolates = RunLaws.run_isolates chan (image_table rest) KnxRuns.Given KnxRuns.given_as start begun before gs ran (image_isolates rest)
 
   pub border_no_difference : (calls others : List Call) (hs is : List KnxRuns.Given) (b : ℕ) (p : Tunnel) → KnxRuns.Ran rest last_image calls hs → KnxRuns.Ran rest last_image others is
-      → (image_table rest).look b last_image ≡ some p → calls_of chan (names chan b) calls ≡ calls_of chan (names chan b) others
+      → (image_table rest).look b last_image ≡ Some p → calls_of chan (names chan b) calls ≡ calls_of chan (names chan b) others
       → KnxRuns.seen_by rest b last_image calls hs ≡ KnxRuns.seen_by rest b last_image others is
   border_no_difference = RunLaws.run_no_difference chan (image_table rest) KnxRuns.Given KnxRuns.given_as start begun before gs ran (image_isolates rest)
 
-  pub border_opens : (r : KnxCalled) (b : ℕ) (after : List ℕ) → Called.OpenPromise last_image b r after → (image_table rest).look b last_image ≡ none
+  pub border_opens : (r : KnxCalled) (b : ℕ) (after : List ℕ) → Called.OpenPromise last_image b r after → (image_table rest).look b last_image ≡ None
       → Opening chan (image_table rest) 8 b last_image (Open b) (KnxRuns.given_as ((r, []), after))
   border_opens r b after p e =
       RunLaws.run-opens chan (image_table rest) KnxRuns.Given KnxRuns.given_as start begun before gs ran 8 (image_opens rest) (Open b) ((r, []), after) b p refl refl e
@@ -143,13 +142,13 @@ module _ (image start : List ℕ) (w : KnxWritten) (emptied : Called.EmptyPromis
 
 -- a request that a send wrote: its channel, its sending number, and its cEMI, whose part is the sent bytes
 pub send_heard : (t : Tunnel) (b : ℕ) (cemi out : List ℕ) → (lone t (Send b cemi out)).0.0.number ≡ 0
-    → (heard_by01 (lone t (Send b cemi out)).0.1 ≡ Request b t.s (cemi_start + length cemi))
+    → (heard_by01 (lone t (Send b cemi out)).0.1 ≡ Ok (Request b t.s (cemi_start + length cemi)))
     × (part_of (lone t (Send b cemi out)).0.1 cemi_start (cemi_start + length cemi) ≡ cemi)
 send_heard = Exchange.send_heard Crate
 
 -- an acknowledgement of eleven bytes that a request brought about: its channel, its number, and status 0
-pub ack-heard : (t : Tunnel) (channel n end : ℕ) (bytes out : List ℕ) → heard_by01 bytes ≡ Request channel n end → (lone t (Datagram bytes out)).0.0.number ≡ 0
-    → get_or (lone t (Datagram bytes out)).0.0.values 1 0 ≡ 11 → heard_by01 (lone t (Datagram bytes out)).0.1 ≡ Ack channel n 0
+pub ack-heard : (t : Tunnel) (channel n end : ℕ) (bytes out : List ℕ) → heard_by01 bytes ≡ Ok (Request channel n end) → (lone t (Datagram bytes out)).0.0.number ≡ 0
+    → get_or (lone t (Datagram bytes out)).0.0.values 1 0 ≡ 11 → heard_by01 (lone t (Datagram bytes out)).0.1 ≡ Ok (Ack channel n 0)
 ack-heard t channel n end bytes out is z w = Exchange.ack-heard Crate t channel n end bytes out is z (omega (arith, w))
 
 -- the cEMI that is heard is the part that the frame's parse and the body's hand out

@@ -1,7 +1,6 @@
 -- The empty versions that 01 shuts out, each by the predicate that ours has: demand 2 for parsers and builders, demand 3 for tables.
-use Rattle.std.specs.Prelude.{ℕ, suc, ◌≤◌, ◌≡◌, refl, Bool, true, false, List, [], ◌∷◌, ◌++◌, length, get_or, drop, replicate, eqb, Ok}
+use Rattle.std.specs.Prelude.{ℕ, suc, ◌≤◌, ◌≡◌, refl, Bool, true, false, List, [], ◌∷◌, ◌++◌, length, get_or, drop, replicate, eqb, Ok, None, Result, Err}
 use Rattle.std.proofs.Common.{arith, sym, ap, subst, ◌∙◌, get_or-take, get_or-drop, eq-eqb, le-ltb}
-use Rattle.std.proofs.Math.Option.{none}
 use Rattle.wire.specs.Told.{Told, done, verdict}
 use Rattle.wire.specs.declared.refusals.Refusal.TheVariants.{TableFull}
 use Rattle.constants.specs.declared.services.ServiceType.{ServiceType}
@@ -20,7 +19,7 @@ use Rattle.ldata.specs.declared.count.Counting.TheVariants.{Crate, Standard}
 use Rattle.ldata.specs.declared.builder.LDataBuilder.{LDataBuilder}
 use Rattle.tunnel_datagram.specs.Hearing.{heard_in}
 use Rattle.tunnel_datagram.specs.declared.hearing.Heard.{Heard}
-use Rattle.tunnel_datagram.specs.declared.hearing.Heard.TheVariants.{Request, Ack, Refused}
+use Rattle.tunnel_datagram.specs.declared.hearing.Heard.TheVariants.{Request, Ack}
 use Rattle.tunnel.specs.Rules.{afresh}
 use Rattle.tunnel.specs.declared.rules.Said.TheVariants.{Ignored}
 use Rattle.tunnel_model.specs.Firsts.{one_if, is_none, count_of}
@@ -38,6 +37,7 @@ use Rattle.additional_info.specs.declared.info_type.AdditionalInfoType.TheVarian
 use Rattle.claims.specs.AdditionalInfo.{info_told, Appends}
 use Rattle.claims.specs.Demand2.{ReadsBack, header, Builds, ldata_proper, ldata_bytes, ldata, LDataBuilds}
 use Rattle.claims.specs.Examples.{request, room}
+use Rattle.wire.specs.declared.refusals.Fault.{Fault}
 
 -- ---- parsers
 
@@ -202,10 +202,10 @@ ignores_after_first f =
     omega arith
 
 -- a table that a refused datagram empties
-abbrev shaken : Heard → List Place → List Place
-shaken (Request channel n end) l = l
-shaken (Ack channel n status) l = l
-shaken (Refused e) l = empty_of kind 8
+abbrev shaken : Result Heard Fault → List Place → List Place
+shaken (Ok (Request channel n end)) l = l
+shaken (Ok (Ack channel n status)) l = l
+shaken (Err e) l = empty_of kind 8
 
 abbrev shake : List Place → Call → List Place
 shake l (DatagramIn form bytes out) = shaken (heard_in form bytes) l
@@ -223,7 +223,7 @@ disturbed_by_refused f =
     omega arith
 
 -- any table that never shows a channel, however it answers
-module _ (M : Machine chan) (hidden : (b : ℕ) (l : M.Table) → M.look b l ≡ none) where
+module _ (M : Machine chan) (hidden : (b : ℕ) (l : M.Table) → M.look b l ≡ None) where
   nobody : (b : ℕ) (l : M.Table) → Others chan M 8 b l → ⊥
   nobody b l o = go o.ids o.many o.all
     where
@@ -238,7 +238,7 @@ module _ (M : Machine chan) (hidden : (b : ℕ) (l : M.Table) → M.look b l ≡
 
 -- such as one that refuses every call with 8
 abbrev pub shut : Machine chan
-shut = record { Table = Unit {0}; start = tt; look = λ b t. none; step = λ t c. (refuses TableFull (out_of c), t) }
+shut = record { Table = Unit {0}; start = tt; look = λ b t. None; step = λ t c. (refuses TableFull (out_of c), t) }
 
 pub always_full : Opens chan 8 shut → ⊥
 always_full = never_opens shut (λ b l. refl)

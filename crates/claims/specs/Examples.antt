@@ -1,7 +1,6 @@
 -- Demand 3 at work, by computation: a trace with calls of 21, of 7 and of nobody, and tables that calls reach with 21 idle, waiting first, waiting second, and with r = 255.
-use Rattle.std.specs.Prelude.{ℕ, zero, suc, ◌+◌, ◌%◌, ◌<◌, ◌≡◌, refl, true, List, [], ◌∷◌, ◌++◌}
+use Rattle.std.specs.Prelude.{ℕ, zero, suc, ◌+◌, ◌%◌, ◌<◌, ◌≡◌, refl, true, List, [], ◌∷◌, ◌++◌, Option, None, Some}
 use Rattle.std.proofs.Common.{arith, sym, ap, ◌∙◌, eq-eqb}
-use Rattle.std.proofs.Math.Option.{Option, none, some}
 use Rattle.wire.specs.Told.{done}
 use Rattle.wire.specs.declared.refusals.Refusal.TheVariants.{BufferTooSmall, AlreadyOpen}
 use Rattle.tunnel.specs.Rules.{afresh, arrival_of}
@@ -60,10 +59,10 @@ abbrev acked : List ℕ
 acked = 0x06 ∷ 0x10 ∷ 0x04 ∷ 0x21 ∷ 0x00 ∷ 0x0B ∷ 0x04 ∷ 21 ∷ 0 ∷ 0x00 ∷ 0x00 ∷ 9 ∷ []
 
 abbrev at : ℕ → ℕ → Option Tunnel
-at r s = some (record { r = r; s = s; w = Idle })
+at r s = Some (record { r = r; s = s; w = Idle })
 
 -- the premise of `isolates` is met
-pub is_open : (table_of kind 8).look 21 (reached chan (table_of kind 8) before) ≡ some afresh
+pub is_open : (table_of kind 8).look 21 (reached chan (table_of kind 8) before) ≡ Some afresh
 is_open = refl
 
 -- what the table gives 21: the view 10 to 12, eleven bytes written, the twelfth as it was; and nothing after it is closed
@@ -71,26 +70,26 @@ pub trace : table_trace chan (table_of kind 8) (names chan 21) 21 (reached chan 
     ≡ ((record { number = 0; values = said_of Deliver ∷ 11 ∷ []; start = 10; end = 12; offset = 0 }, acked), at 1 0)
     ∷ ((done (said_of Duplicate ∷ 11 ∷ []), acked), at 1 0)
     ∷ (refuses BufferTooSmall [], at 1 0)
-    ∷ ((done (said_of Nothing ∷ 12 ∷ []), 0x06 ∷ 0x10 ∷ 0x04 ∷ 0x20 ∷ 0x00 ∷ 0x0C ∷ 0x04 ∷ 21 ∷ 0 ∷ 0x00 ∷ 0x11 ∷ 0x00 ∷ []), some (record { r = 1; s = 0; w = First }))
-    ∷ (says Repeat [], some (record { r = 1; s = 0; w = Second }))
+    ∷ ((done (said_of Nothing ∷ 12 ∷ []), 0x06 ∷ 0x10 ∷ 0x04 ∷ 0x20 ∷ 0x00 ∷ 0x0C ∷ 0x04 ∷ 21 ∷ 0 ∷ 0x00 ∷ 0x11 ∷ 0x00 ∷ []), Some (record { r = 1; s = 0; w = First }))
+    ∷ (says Repeat [], Some (record { r = 1; s = 0; w = Second }))
     ∷ (says Sent [], at 1 1)
     ∷ (refuses AlreadyOpen [], at 1 1)
-    ∷ (says Nothing [], none)
+    ∷ (says Nothing [], None)
     ∷ []
 trace = refl
 
-pub as_alone : table_trace chan (table_of kind 8) (names chan 21) 21 (reached chan (table_of kind 8) before) calls ≡ lone_trace chan (some afresh) (calls_of chan (names chan 21) calls)
+pub as_alone : table_trace chan (table_of kind 8) (names chan 21) 21 (reached chan (table_of kind 8) before) calls ≡ lone_trace chan (Some afresh) (calls_of chan (names chan 21) calls)
 as_alone = isolates before calls 21 afresh is_open
 
 -- ---- each waiting state
 
-pub idle : (table_of kind 8).look 21 (reached chan (table_of kind 8) (Open 21 ∷ [])) ≡ some afresh
+pub idle : (table_of kind 8).look 21 (reached chan (table_of kind 8) (Open 21 ∷ [])) ≡ Some afresh
 idle = refl
 
-pub waits_first : (table_of kind 8).look 21 (reached chan (table_of kind 8) (Open 21 ∷ Send 21 [] room ∷ [])) ≡ some (record { r = 0; s = 0; w = First })
+pub waits_first : (table_of kind 8).look 21 (reached chan (table_of kind 8) (Open 21 ∷ Send 21 [] room ∷ [])) ≡ Some (record { r = 0; s = 0; w = First })
 waits_first = refl
 
-pub waits_second : (table_of kind 8).look 21 (reached chan (table_of kind 8) (Open 21 ∷ Send 21 [] room ∷ Timeout 21 ∷ [])) ≡ some (record { r = 0; s = 0; w = Second })
+pub waits_second : (table_of kind 8).look 21 (reached chan (table_of kind 8) (Open 21 ∷ Send 21 [] room ∷ Timeout 21 ∷ [])) ≡ Some (record { r = 0; s = 0; w = Second })
 waits_second = refl
 
 -- ---- r = 255
@@ -105,7 +104,7 @@ run_on l [] ds = refl
 run_on l (c ∷ cs) ds = run_on ((table_of kind 8).step l c).1 cs ds
 
 abbrev last_seen : List (Seen chan) → Option Tunnel
-last_seen [] = none
+last_seen [] = None
 last_seen (x ∷ xs) = x.1
 
 climbs : (k : ℕ) → k < 256 → (table_of kind 8).look 21 (reached chan (table_of kind 8) (asked k)) ≡ at k 0
@@ -115,7 +114,7 @@ climbs (suc k) h =
     let p : Tunnel = record { r = k; s = 0; w = Idle } in
     let l : List Place = reached chan (table_of kind 8) (asked k) in
     let c : Call = Datagram (request 21 k) room in
-    let there : (table_of kind 8).look 21 l ≡ some p = climbs k (omega arith) in
+    let there : (table_of kind 8).look 21 l ≡ Some p = climbs k (omega arith) in
     let x : Seen chan = (((table_of kind 8).step l c).0, (table_of kind 8).look 21 ((table_of kind 8).step l c).1) in
     let arrives : arrival_of p k ≡ Arrival.Deliver = simp (eq-eqb k k refl) in
     let next : (k + 1) % 256 ≡ suc k = omega arith in

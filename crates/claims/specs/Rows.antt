@@ -1,6 +1,5 @@
 -- 01, "Cases on both sides": the P rows, proved together as one table.
-use Rattle.std.specs.Prelude.{ℕ, ◌≡◌, refl, List, [], ◌∷◌, get_or, Ok}
-use Rattle.std.proofs.Math.Option.{some}
+use Rattle.std.specs.Prelude.{ℕ, ◌≡◌, refl, List, [], ◌∷◌, get_or, Ok, Some}
 use Rattle.wire.specs.Told.{Told, viewed}
 use Rattle.wire.specs.Parts.{shown}
 use Rattle.wire.specs.declared.refusals.Refusal.TheVariants.{BufferTooSmall}
@@ -81,7 +80,7 @@ pub record P : Type 0 where
   pub write_L2_six : SixBitPromise (get_or (ldata 2 (0x00 ∷ 0x81 ∷ [])) 8 0) 1
   pub apci_02_C0 : apci_of (code_in 0x02 0xC0) ≡ Unknown 0x2C0
   pub r_255 : (s : ℕ) (w : Wait) → lone (record { r = 255; s = s; w = w }) (Datagram (request 21 255) room)
-      ≡ ((record { number = 0; values = said_of Deliver ∷ 11 ∷ []; start = 10; end = 12; offset = 0 }, acked), some (record { r = 0; s = s; w = w }))
+      ≡ ((record { number = 0; values = said_of Deliver ∷ 11 ∷ []; start = 10; end = 12; offset = 0 }, acked), Some (record { r = 0; s = s; w = w }))
 
 pub rows : P
 rows = record {

@@ -1,6 +1,5 @@
 -- KNX's own acknowledgement and refused connect response, 03_08_04 and 03_08_02, and what a whole session needs: what both forms share, said once over the form; then rows typed from KNX and from frames of a real gateway. Over the promises that the contracts cite.
-use Rattle.std.specs.Prelude.{ℕ, ◌+◌, ◌≤◌, ◌≡◌, refl, List, [], ◌∷◌, ◌++◌, length, get_or, take, replicate, Result, Ok}
-use Rattle.std.proofs.Math.Option.{none, some}
+use Rattle.std.specs.Prelude.{ℕ, ◌+◌, ◌≤◌, ◌≡◌, refl, List, [], ◌∷◌, ◌++◌, length, get_or, take, replicate, Result, Ok, None, Some, Err}
 use Rattle.wire.specs.Told.{Told, done, refused}
 use Rattle.wire.specs.Writing.{tells}
 use Rattle.wire.specs.Layout.{byte, put}
@@ -33,7 +32,7 @@ use Rattle.tunnelling.specs.declared.request.TunnelingRequest.{TunnelingRequest}
 use Rattle.tunnelling.specs.declared.ack.TunnelingAck.{TunnelingAck}
 use Rattle.tunnel_datagram.specs.Hearing.{cemi_start, heard_in}
 use Rattle.tunnel_datagram.specs.WrittenHeard as WrittenHeard
-use Rattle.tunnel_datagram.specs.declared.hearing.Heard.TheVariants.{Request, Ack, Refused}
+use Rattle.tunnel_datagram.specs.declared.hearing.Heard.TheVariants.{Request, Ack}
 use Rattle.tunnel.specs.Numbers.{said_of}
 use Rattle.tunnel.specs.declared.rules.Tunnel.{Tunnel}
 use Rattle.tunnel.specs.declared.rules.Wait.{Wait}
@@ -62,23 +61,23 @@ ack_round_trip = TunnelingAckLaws.round_trip_in
 
 -- what the builders wrote is heard: an acknowledgement in its own form, a request in either
 pub ack-heard : (f : Form) (a : TunnelingAck) (b : List ℕ) (n : ℕ) (after : List ℕ) → AckForm.BuildInPromise f a b (Ok n) after
-    → heard_in f after ≡ Ack a.connection_header.channel_id a.connection_header.sequence_counter a.status
+    → heard_in f after ≡ Ok (Ack a.connection_header.channel_id a.connection_header.sequence_counter a.status)
 ack-heard = WrittenHeard.ack-heard
 
 pub request-heard : (f : Form) (t : TunnelingRequest) (cemi b : List ℕ) (n : ℕ) (after : List ℕ) → TunnelingRequest.BuildPromise t cemi b (Ok n) after
-    → (heard_in f after ≡ Request t.connection_header.channel_id t.connection_header.sequence_counter (cemi_start + length cemi))
+    → (heard_in f after ≡ Ok (Request t.connection_header.channel_id t.connection_header.sequence_counter (cemi_start + length cemi)))
     × (part_of after cemi_start (cemi_start + length cemi) ≡ cemi)
 request-heard = WrittenHeard.request-heard
 
 -- ---- what one table writes, another hears: a request that a send wrote, and the acknowledgement that it brought about
 
 pub send_heard : (f : Form) (t : Tunnel) (b : ℕ) (cemi out : List ℕ) → (lone t (Send b cemi out)).0.0.number ≡ 0
-    → (heard_in f (lone t (Send b cemi out)).0.1 ≡ Request b t.s (cemi_start + length cemi))
+    → (heard_in f (lone t (Send b cemi out)).0.1 ≡ Ok (Request b t.s (cemi_start + length cemi)))
     × (part_of (lone t (Send b cemi out)).0.1 cemi_start (cemi_start + length cemi) ≡ cemi)
 send_heard = Exchange.send_heard
 
-pub answer-heard : (f : Form) (t : Tunnel) (channel n end : ℕ) (bytes out : List ℕ) → heard_in f bytes ≡ Request channel n end → (lone t (DatagramIn f bytes out)).0.0.number ≡ 0
-    → 1 ≤ get_or (lone t (DatagramIn f bytes out)).0.0.values 1 0 → heard_in f (lone t (DatagramIn f bytes out)).0.1 ≡ Ack channel n 0
+pub answer-heard : (f : Form) (t : Tunnel) (channel n end : ℕ) (bytes out : List ℕ) → heard_in f bytes ≡ Ok (Request channel n end) → (lone t (DatagramIn f bytes out)).0.0.number ≡ 0
+    → 1 ≤ get_or (lone t (DatagramIn f bytes out)).0.0.values 1 0 → heard_in f (lone t (DatagramIn f bytes out)).0.1 ≡ Ok (Ack channel n 0)
 answer-heard = Exchange.ack-heard
 
 -- ---- a connect response in KNX's form
@@ -193,22 +192,22 @@ ten_nines = replicate 10 9
 
 pub record Datagrams : Type 0 where
   -- whose call it is depends on the form: an acknowledgement of ten bytes names nobody by 01
-  pub names_knx : named (DatagramIn Standard (knx_ack 21 0 0) []) ≡ some 21
-  pub names_nobody : named (Datagram (knx_ack 21 0 0) []) ≡ none
-  pub request_either : heard_in Standard (request 21 7) ≡ Request 21 7 12
-  pub heard_knx : heard_in Standard (knx_ack 21 7 0x29) ≡ Ack 21 7 0x29
-  pub heard_by_01 : heard_in Crate (knx_ack 21 7 0x29) ≡ Refused (short 10)
+  pub names_knx : named (DatagramIn Standard (knx_ack 21 0 0) []) ≡ Some 21
+  pub names_nobody : named (Datagram (knx_ack 21 0 0) []) ≡ None
+  pub request_either : heard_in Standard (request 21 7) ≡ Ok (Request 21 7 12)
+  pub heard_knx : heard_in Standard (knx_ack 21 7 0x29) ≡ Ok (Ack 21 7 0x29)
+  pub heard_by_01 : heard_in Crate (knx_ack 21 7 0x29) ≡ Err (short 10)
   -- one of eleven bytes is read by its fourth byte
-  pub heard_eleven : heard_in Standard (ack_by01 21 7 0x29) ≡ Ack 21 7 0
+  pub heard_eleven : heard_in Standard (ack_by01 21 7 0x29) ≡ Ok (Ack 21 7 0)
   -- deliver and duplicate: ten bytes are written, and ten are enough
   pub deliver : alone Idle (DatagramIn Standard (request 21 0) ten_nines)
-      ≡ ((record { number = 0; values = said_of Said.Deliver ∷ 10 ∷ []; start = 10; end = 12; offset = 0 }, knx_ack 21 0 0), some (record { r = 1; s = 0; w = Idle }))
-  pub deliver_short : alone Idle (DatagramIn Standard (request 21 0) (replicate 9 9)) ≡ (refuses BufferTooSmall (replicate 9 9), some (record { r = 0; s = 0; w = Idle }))
-  pub deliver_by_01 : alone Idle (Datagram (request 21 0) ten_nines) ≡ (refuses BufferTooSmall ten_nines, some (record { r = 0; s = 0; w = Idle }))
-  pub duplicate : alone Idle (DatagramIn Standard (request 21 255) room) ≡ ((done (said_of Said.Duplicate ∷ 10 ∷ []), knx_ack 21 255 0 ++ 9 ∷ 9 ∷ []), some (record { r = 0; s = 0; w = Idle }))
-  pub out_of_order : alone Idle (DatagramIn Standard (request 21 1) []) ≡ (says Said.OutOfOrder [], some (record { r = 0; s = 0; w = Idle }))
+      ≡ ((record { number = 0; values = said_of Said.Deliver ∷ 10 ∷ []; start = 10; end = 12; offset = 0 }, knx_ack 21 0 0), Some (record { r = 1; s = 0; w = Idle }))
+  pub deliver_short : alone Idle (DatagramIn Standard (request 21 0) (replicate 9 9)) ≡ (refuses BufferTooSmall (replicate 9 9), Some (record { r = 0; s = 0; w = Idle }))
+  pub deliver_by_01 : alone Idle (Datagram (request 21 0) ten_nines) ≡ (refuses BufferTooSmall ten_nines, Some (record { r = 0; s = 0; w = Idle }))
+  pub duplicate : alone Idle (DatagramIn Standard (request 21 255) room) ≡ ((done (said_of Said.Duplicate ∷ 10 ∷ []), knx_ack 21 255 0 ++ 9 ∷ 9 ∷ []), Some (record { r = 0; s = 0; w = Idle }))
+  pub out_of_order : alone Idle (DatagramIn Standard (request 21 1) []) ≡ (says Said.OutOfOrder [], Some (record { r = 0; s = 0; w = Idle }))
   -- while it waits: sent, repeat, and what 01's form would mean
-  pub sent : alone First (DatagramIn Standard (knx_ack 21 0 0) []) ≡ (says Said.Sent [], some (record { r = 0; s = 1; w = Idle }))
+  pub sent : alone First (DatagramIn Standard (knx_ack 21 0 0) []) ≡ (says Said.Sent [], Some (record { r = 0; s = 1; w = Idle }))
   pub bad : (alone First (DatagramIn Standard (knx_ack 21 0 0x29) [])).0 ≡ says Said.Repeat []
   pub eleven_sent : (alone First (DatagramIn Standard (ack_by01 21 0 0x29) [])).0 ≡ says Said.Sent []
   pub eleven_bad : (alone First (Datagram (ack_by01 21 0 0x29) [])).0 ≡ says Said.Repeat []
@@ -251,11 +250,11 @@ pub record Mixed : Type 0 where
   pub mine : calls_of chan (names chan 21) mixed
       ≡ Datagram (request 21 0) room ∷ DatagramIn Standard (request 21 0) room ∷ DatagramIn Standard (request 21 1) ten_nines ∷ Send 21 [] room ∷ DatagramIn Standard (knx_ack 21 0 0) [] ∷ []
   pub seen_of_21 : table_trace chan (table_of kind 8) (names chan 21) 21 (reached chan (table_of kind 8) (Open 21 ∷ Open 7 ∷ [])) mixed
-      ≡ ((record { number = 0; values = said_of Said.Deliver ∷ 11 ∷ []; start = 10; end = 12; offset = 0 }, ack_by01 21 0 0 ++ 9 ∷ []), some (record { r = 1; s = 0; w = Idle }))
-      ∷ ((done (said_of Said.Duplicate ∷ 10 ∷ []), knx_ack 21 0 0 ++ 9 ∷ 9 ∷ []), some (record { r = 1; s = 0; w = Idle }))
-      ∷ ((record { number = 0; values = said_of Said.Deliver ∷ 10 ∷ []; start = 10; end = 12; offset = 0 }, knx_ack 21 1 0), some (record { r = 2; s = 0; w = Idle }))
-      ∷ ((done (said_of Said.Nothing ∷ 10 ∷ []), 0x06 ∷ 0x10 ∷ 0x04 ∷ 0x20 ∷ 0x00 ∷ 0x0A ∷ 0x04 ∷ 21 ∷ 0 ∷ 0x00 ∷ 9 ∷ 9 ∷ []), some (record { r = 2; s = 0; w = First }))
-      ∷ (says Said.Sent [], some (record { r = 2; s = 1; w = Idle }))
+      ≡ ((record { number = 0; values = said_of Said.Deliver ∷ 11 ∷ []; start = 10; end = 12; offset = 0 }, ack_by01 21 0 0 ++ 9 ∷ []), Some (record { r = 1; s = 0; w = Idle }))
+      ∷ ((done (said_of Said.Duplicate ∷ 10 ∷ []), knx_ack 21 0 0 ++ 9 ∷ 9 ∷ []), Some (record { r = 1; s = 0; w = Idle }))
+      ∷ ((record { number = 0; values = said_of Said.Deliver ∷ 10 ∷ []; start = 10; end = 12; offset = 0 }, knx_ack 21 1 0), Some (record { r = 2; s = 0; w = Idle }))
+      ∷ ((done (said_of Said.Nothing ∷ 10 ∷ []), 0x06 ∷ 0x10 ∷ 0x04 ∷ 0x20 ∷ 0x00 ∷ 0x0A ∷ 0x04 ∷ 21 ∷ 0 ∷ 0x00 ∷ 9 ∷ 9 ∷ []), Some (record { r = 2; s = 0; w = First }))
+      ∷ (says Said.Sent [], Some (record { r = 2; s = 1; w = Idle }))
       ∷ []
 
 pub mixed_so : Mixed

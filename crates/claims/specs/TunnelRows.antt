@@ -1,6 +1,5 @@
 -- 01, "Tunnel table": its answers as rows, on the lone tunnel, on the empty table, and on tables that no calls reach.
-use Rattle.std.specs.Prelude.{ℕ, ◌≡◌, refl, Bool, true, List, [], ◌∷◌, replicate}
-use Rattle.std.proofs.Math.Option.{some}
+use Rattle.std.specs.Prelude.{ℕ, ◌≡◌, refl, Bool, true, List, [], ◌∷◌, replicate, Some}
 use Rattle.wire.specs.Told.{done}
 use Rattle.wire.specs.declared.refusals.Refusal.TheVariants.{BufferTooSmall, NotOpen, AwaitsAck, AwaitsNothing}
 use Rattle.tunnel.specs.declared.rules.Wait.{Wait}
@@ -68,11 +67,11 @@ pub record TunnelRows : Type 0 where
   pub bad_ack_idle : alone Idle (Datagram (ack 21 0 1) []) ≡ says Ignored []
   pub ack_other_number : alone First (Datagram (ack 21 1 0) []) ≡ says Ignored []
   -- an acknowledgement while waiting first, with number s: status 0 is "sent", another is "repeat" and waits second; the number is judged before the status
-  pub ack-first : lone (record { r = 7; s = 0; w = First }) (Datagram (ack 21 0 0) []) ≡ (says Sent [], some (record { r = 7; s = 1; w = Idle }))
-  pub bad_ack_first : lone (record { r = 7; s = 0; w = First }) (Datagram (ack 21 0 1) []) ≡ (says Repeat [], some (record { r = 7; s = 0; w = Second }))
+  pub ack-first : lone (record { r = 7; s = 0; w = First }) (Datagram (ack 21 0 0) []) ≡ (says Sent [], Some (record { r = 7; s = 1; w = Idle }))
+  pub bad_ack_first : lone (record { r = 7; s = 0; w = First }) (Datagram (ack 21 0 1) []) ≡ (says Repeat [], Some (record { r = 7; s = 0; w = Second }))
   pub bad_ack_other_number : alone First (Datagram (ack 21 1 1) []) ≡ says Ignored []
   -- 255 is followed by 0 when sending too
-  pub s_255 : lone (record { r = 7; s = 255; w = Second }) (Datagram (ack 21 255 0) []) ≡ (says Sent [], some (record { r = 7; s = 0; w = Idle }))
+  pub s_255 : lone (record { r = 7; s = 255; w = Second }) (Datagram (ack 21 255 0) []) ≡ (says Sent [], Some (record { r = 7; s = 0; w = Idle }))
   -- a channel that is not open: 9, and a filled output stays as it was
   pub close_closed : on_empty (Close 21) ≡ 9
   pub timeout_closed : on_empty (Timeout 21) ≡ 9

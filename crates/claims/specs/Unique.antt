@@ -1,5 +1,5 @@
 -- "What a contract has to settle": no second answer. One theorem for each public function, under its name, over the promise that its `ensures` cites: two answers, or two answers with their lent slices, that meet the promise on the same inputs are equal. A part that is handed out is settled by its bytes.
-use Rattle.std.specs.Prelude.{ℕ, ◌≡◌, List, ◌++◌, [], Bool}
+use Rattle.std.specs.Prelude.{ℕ, ◌≡◌, List, ◌++◌, [], Bool, Result}
 use Rattle.wire.specs.Refusals.{NumberPromise}
 use Rattle.wire.specs.Layout.{WordPromise, HighPromise, LowPromise, ByteAtPromise, WordAtPromise, CopyPromise}
 use Rattle.wire.specs.Writing.{WritePromise, Write3Promise}
@@ -119,6 +119,7 @@ use Rattle.knx.specs.Called as Called
 use Rattle.knx.specs.CalledLaws as CalledLaws
 use Rattle.knx.specs.declared.building.KnxWritten.{KnxWritten}
 use Rattle.knx.specs.declared.called.KnxCalled.{KnxCalled}
+use Rattle.wire.specs.declared.refusals.Fault.{Fault}
 
 -- a promise over one, two or three inputs
 abbrev pub One : {A R : Type 0} → (A → R → Type 0) → Type 0
@@ -815,11 +816,11 @@ pub table_send : (id : ℕ) (cemi out : List ℕ) → OneCall (λ t. CallPromise
 table_send id cemi out t = Compiled.call_one t (Send id cemi out)
 
 -- tunnel_table::Table::heard
-pub table_heard : (t : Table) (h : Heard) (out : List ℕ) (r q : Called) (after later : List ℕ) → HeardPromise t h out r after → HeardPromise t h out q later → (r ≡ q) × (after ≡ later)
+pub table_heard : (t : Table) (h : Result Heard Fault) (out : List ℕ) (r q : Called) (after later : List ℕ) → HeardPromise t h out r after → HeardPromise t h out q later → (r ≡ q) × (after ≡ later)
 table_heard t h out = Compiled.called_one (heard_on h out t.places)
 
 -- tunnel_table::Table::heard_in
-pub table_heard_in : (f : Form) (t : Table) (h : Heard) (out : List ℕ) (r q : Called) (after later : List ℕ) → HeardInPromise f t h out r after → HeardInPromise f t h out q later → (r ≡ q) × (after ≡ later)
+pub table_heard_in : (f : Form) (t : Table) (h : Result Heard Fault) (out : List ℕ) (r q : Called) (after later : List ℕ) → HeardInPromise f t h out r after → HeardInPromise f t h out q later → (r ≡ q) × (after ≡ later)
 table_heard_in f t h out = Compiled.called_one (heard_in_on f h out t.places)
 
 -- tunnel_table::Table::datagram_in

@@ -1,5 +1,5 @@
 -- 02, 3/13, "Say where": one law for every part, B's offset by its datagram alone, and rows. What each call promises of its offset is its own promise; that there is no second one is in `Unique`. Assumes nothing.
-use Rattle.std.specs.Prelude.{ℕ, ◌+◌, ◌≡◌, refl, true, List, [], ◌∷◌, ◌++◌, length, replicate, Ok, Err}
+use Rattle.std.specs.Prelude.{ℕ, ◌+◌, ◌≡◌, refl, true, List, [], ◌∷◌, ◌++◌, length, replicate, Ok, Err, Result}
 use Rattle.wire.specs.Told.{Told, refused, nowhere, verdict}
 use Rattle.wire.specs.Places.{standing, later_fault, Reader, all_checks, all_offsets, says_all, later}
 use Rattle.wire.specs.PlaceLaws as PlaceLaws
@@ -38,7 +38,7 @@ use Rattle.borrowed.specs.LDataFrame as LDataFrame
 use Rattle.tunnel_datagram.specs.Hearing.{cemi_start, heard_or, heard_in, heard_by01}
 use Rattle.tunnel_datagram.specs.Order as Order
 use Rattle.tunnel_datagram.specs.declared.hearing.Heard.{Heard}
-use Rattle.tunnel_datagram.specs.declared.hearing.Heard.TheVariants.{Request, Ack, Refused}
+use Rattle.tunnel_datagram.specs.declared.hearing.Heard.TheVariants.{Request, Ack}
 use Rattle.tunnel.specs.Rules.{arrival_of}
 use Rattle.tunnel.specs.declared.rules.Tunnel.{Tunnel}
 use Rattle.tunnel.specs.declared.rules.Arrival.{Arrival}
@@ -127,10 +127,10 @@ record_later = AreaLaws.record_later
 -- ---- in demand 3 it depends on B's datagram alone
 
 -- the offset of what was heard: a refusal has its own; any other datagram none, since an open channel refuses it for its output at most
-abbrev pub offset_of : Heard → ℕ
-offset_of (Request channel n end) = 0
-offset_of (Ack channel n status) = 0
-offset_of (Refused e) = e.at
+abbrev pub offset_of : Result Heard Fault → ℕ
+offset_of (Ok (Request channel n end)) = 0
+offset_of (Ok (Ack channel n status)) = 0
+offset_of (Err e) = e.at
 
 or_nowhere : (v : Verdict) (out : List ℕ) (t : Tunnel) (a : After) → a.0.0.offset ≡ 0 → (or_refused v out t a).0.0.offset ≡ 0
 or_nowhere (Ok _) out t a z = z
@@ -141,10 +141,10 @@ arrived-nowhere f Deliver t channel n end out = or_nowhere (verdict (build_check
 arrived-nowhere f Duplicate t channel n end out = or_nowhere (verdict (build_checks (form_by f) (length out))) out t _ refl
 arrived-nowhere f OutOfOrder t channel n end out = refl
 
-heard_offset : (f : Form) (t : Tunnel) (h : Heard) (out : List ℕ) → (heard f t h out).0.0.offset ≡ offset_of h
-heard_offset f t (Request channel n end) out = arrived-nowhere f (arrival_of t n) t channel n end out
-heard_offset f t (Ack channel n status) out = refl
-heard_offset f t (Refused e) out = refl
+heard_offset : (f : Form) (t : Tunnel) (h : Result Heard Fault) (out : List ℕ) → (heard f t h out).0.0.offset ≡ offset_of h
+heard_offset f t (Ok (Request channel n end)) out = arrived-nowhere f (arrival_of t n) t channel n end out
+heard_offset f t (Ok (Ack channel n status)) out = refl
+heard_offset f t (Err e) out = refl
 
 -- whatever state the tunnel is in and whatever output it is lent; in a table B's calls get the lone tunnel's outcome, of which the offset is part (`Demand3.isolates`)
 pub by_datagram_alone : (f : Form) (t : Tunnel) (bytes out : List ℕ) → (lone t (DatagramIn f bytes out)).0.0.offset ≡ offset_of (heard_in f bytes)
@@ -232,9 +232,9 @@ pub record Rows : Type 0 where
   pub made_data_L : LData.DataPromise (group_write 1) (replicate 9 0) (record { number = 2; start = 0; end = 0; offset = 6 })
   pub borrowed_L : LDataFrame.BorrowedViewPromise Standard [] (group_write 2) (record { number = 2; start = 0; end = 0; offset = 6 })
   -- a datagram: 12 at 2; a body that is too short at the total length, not at the datagram's; 9 at 7
-  pub other_service : heard_by01 (0x06 ∷ 0x10 ∷ 0x02 ∷ 0x06 ∷ 0x00 ∷ 0x06 ∷ []) ≡ Refused (at NotForTunnels 2)
-  pub request-short : heard_by01 (six 6 0x10 6 ++ 0xFF ∷ []) ≡ Refused (at BufferTooSmall 6)
-  pub ack_short_in_datagram : heard_by01 (0x06 ∷ 0x10 ∷ 0x04 ∷ 0x21 ∷ 0x00 ∷ 0x0A ∷ 0x04 ∷ 0x15 ∷ 0x07 ∷ 0x00 ∷ 0xFF ∷ []) ≡ Refused (at BufferTooSmall 10)
+  pub other_service : heard_by01 (0x06 ∷ 0x10 ∷ 0x02 ∷ 0x06 ∷ 0x00 ∷ 0x06 ∷ []) ≡ Err (at NotForTunnels 2)
+  pub request-short : heard_by01 (six 6 0x10 6 ++ 0xFF ∷ []) ≡ Err (at BufferTooSmall 6)
+  pub ack_short_in_datagram : heard_by01 (0x06 ∷ 0x10 ∷ 0x04 ∷ 0x21 ∷ 0x00 ∷ 0x0A ∷ 0x04 ∷ 0x15 ∷ 0x07 ∷ 0x00 ∷ 0xFF ∷ []) ≡ Err (at BufferTooSmall 10)
   pub not_open : (step chan (store_of kind) (empty_of kind 8) (Datagram (request 21 0) [])).0 ≡ refuses_at (at NotOpen 7) []
   -- a call that takes no datagram; an output that is too small is `TunnelRows.short-output`
   pub close_closed : (step chan (store_of kind) (empty_of kind 8) (Close 21)).0 ≡ refuses_at (nowhere NotOpen) []

@@ -36,11 +36,11 @@ pub small_call : (image : List ℕ) (c : Call) (r : KnxCalled) → length image 
 small_call image c r h p = ap (λ (t : Told). ((t, out_of c), image)) p ∙ sym (on_small image c h)
 
 -- a datagram that is refused by its bytes alone
-pub unheard_call : (f : Form) (image bytes out : List ℕ) (e : Fault) (r : KnxCalled) → 40 ≤ length image → heard_in f bytes ≡ Heard.Refused e → RefusedPromise e r → CallPromise image (DatagramIn f bytes out) r image out
+pub unheard_call : (f : Form) (image bytes out : List ℕ) (e : Fault) (r : KnxCalled) → 40 ≤ length image → heard_in f bytes ≡ Err e → RefusedPromise e r → CallPromise image (DatagramIn f bytes out) r image out
 unheard_call f image bytes out e r enough h p =
     ap (λ (t : Told). ((t, out), image)) p
     ∙ ap (λ (b : Bool). ((refused 2 e, out), cond b (onto image (packed (unpacked image))) image)) (sym (ne_eqb (number_of e.why) 0 (never_done e.why)))
-    ∙ ap (packed_onto image) (step-heard f (unpacked image) bytes out (Heard.Refused e) h) ∙ sym (on_enough image (DatagramIn f bytes out) enough)
+    ∙ ap (packed_onto image) (step-heard f (unpacked image) bytes out (Err e) h) ∙ sym (on_enough image (DatagramIn f bytes out) enough)
 
 -- the image is unpacked, the table is called, and what it gave is kept
 pub packed_call : (image : List ℕ) (c : Call) (t : Table) (q : Called) (out : List ℕ) (r : KnxCalled) (after : List ℕ) → 40 ≤ length image

@@ -2,6 +2,8 @@
 ghost use Rattle.std.specs.Prelude.{◌≡◌};
 ghost use Rattle.tunnel.specs.Rules.{stays, FreshPromise, WaitsPromise, TimeoutPromise, ArrivalPromise, DeliveredPromise, AcknowledgedPromise, SendingPromise};
 
+use wire::Refusal;
+
 #[derive(Clone, Copy)]
 pub enum Wait {
     Idle,
@@ -38,10 +40,9 @@ pub enum Arrival {
     OutOfOrder,
 }
 
-// A number of 01, what is said beside 0, and what is left of the channel.
+// What a step says, and what it leaves of the channel: nothing where it is closed.
 #[derive(Clone, Copy)]
 pub struct Stepped {
-    pub number: u8,
     pub said: Said,
     pub left: Option<Tunnel>,
 }
@@ -60,12 +61,7 @@ impl Tunnel {
     pub fn waits(self) -> bool
         ensures { WaitsPromise self result }
     {
-        let w = self.w;
-        match w {
-            Wait::Idle => false,
-            Wait::First => true,
-            Wait::Second => true,
-        }
+        !matches!(self.w, Wait::Idle)
     }
 
     // A send that is written: the channel waits for the first time.
@@ -79,29 +75,23 @@ impl Tunnel {
         }
     }
 
-    pub fn timeout(self) -> Stepped
+    pub fn timeout(self) -> Result<Stepped, Refusal>
         ensures { TimeoutPromise self result }
     {
-        let w = self.w;
-        match w {
-            Wait::Idle => Stepped {
-                number: wire::Refusal::AwaitsNothing.number(),
-                said: Said::Nothing,
-                left: Some(self),
-            },
-            Wait::First => stay(
+        match self.w {
+            Wait::Idle => Err(Refusal::AwaitsNothing),
+            Wait::First => Ok(stay(
                 Said::Repeat,
                 Tunnel {
                     r: self.r,
                     s: self.s,
                     w: Wait::Second,
                 },
-            ),
-            Wait::Second => Stepped {
-                number: 0,
+            )),
+            Wait::Second => Ok(Stepped {
                 said: Said::GiveUp,
                 left: None,
-            },
+            }),
         }
     }
 
@@ -127,26 +117,26 @@ impl Tunnel {
     }
 
     // A status other than 0 acts as a timeout.
-    pub fn acknowledged(self, number: u8, status: u8) -> Stepped
+    pub fn acknowledged(self, number: u8, status: u8) -> Result<Stepped, Refusal>
         ensures { AcknowledgedPromise self number status result }
     {
         if !self.waits() {
-            return stay(Said::Ignored, self);
+            return Ok(stay(Said::Ignored, self));
         }
         if number != self.s {
-            return stay(Said::Ignored, self);
+            return Ok(stay(Said::Ignored, self));
         }
         if status != 0 {
             return self.timeout();
         }
-        stay(
+        Ok(stay(
             Said::Sent,
             Tunnel {
                 r: self.r,
                 s: std::num::wrapping_add_u8(self.s, 1),
                 w: Wait::Idle,
             },
-        )
+        ))
     }
 }
 
@@ -154,7 +144,6 @@ fn stay(said: Said, t: Tunnel) -> Stepped
     ensures { result ≡ stays said t }
 {
     Stepped {
-        number: 0,
         said,
         left: Some(t),
     }

@@ -1,5 +1,5 @@
 -- A datagram's checks as one list in 01's order: the frame's, the service's, then the body's, which stands behind the header. What is heard goes by that list, number and offset alike. Assumes nothing.
-use Rattle.std.specs.Prelude.{ℕ, suc, ◌≡◌, refl, Bool, true, false, cond, List, ◌∷◌, [], ◌++◌, length, get_or, eqb, Ok, Err}
+use Rattle.std.specs.Prelude.{ℕ, suc, ◌≡◌, refl, Bool, true, false, cond, List, ◌∷◌, [], ◌++◌, length, get_or, eqb, Ok, Err, Result}
 use Rattle.std.proofs.Common.{sym, ap, ◌∙◌}
 use Rattle.wire.specs.Told.{Check, ◌⇒◌, none_of, verdict}
 use Rattle.wire.specs.Places.{place, stands_at, standing, moved, and_then}
@@ -19,7 +19,7 @@ use Rattle.tunnelling.specs.AckForm as AckForm
 use Rattle.tunnelling.specs.declared.form.Form.{Form}
 use Rattle.tunnel_datagram.specs.Hearing.{heard_or, request_of, ack_of, request_in, ack_in, not_for_tunnels, in_frame, heard_in}
 use Rattle.tunnel_datagram.specs.declared.hearing.Heard.{Heard}
-use Rattle.tunnel_datagram.specs.declared.hearing.Heard.TheVariants.{Refused}
+use Rattle.wire.specs.declared.refusals.Fault.{Fault}
 
 abbrev pub body_in : List ℕ → List ℕ
 body_in s = part_of s header_size (total_in (get fields 0 s))
@@ -42,7 +42,7 @@ module _ (f : Form) where
   offsets s = Frame.offsets (length s) ++ tunnel_offsets (service_in (get fields 0 s)) (length (body_in s))
 
   -- what is heard where all hold
-  abbrev pub heard_of : ℕ → ℕ → List ℕ → Heard
+  abbrev pub heard_of : ℕ → ℕ → List ℕ → Result Heard Fault
   heard_of service total body =
       cond (eqb service (code_of TunnellingRequest)) (request_of (Connection.values_in (get Connection.fields 0 body)) total)
       (ack_of (AckForm.values_in (form_by f) (get (form_by f).fields 0 body)))
@@ -52,7 +52,7 @@ module _ (f : Form) where
   in_order service total body = go (eqb service (code_of TunnellingRequest)) (eqb service (code_of TunnellingAck))
     where
       go : (a b : Bool)
-          → cond a (request_in body total) (cond b (ack_in f body) (Refused not_for_tunnels))
+          → cond a (request_in body total) (cond b (ack_in f body) (Err not_for_tunnels))
           ≡ heard_or
           (stands_at (cond (cond a false (cond b false true)) (Err NotForTunnels) (verdict (cond a (Connection.checks (length body)) (AckForm.checks (form_by f) (length body)))))
           (get_or (2 ∷ moved header_size (cond a (Connection.offsets (length body)) (AckForm.offsets (form_by f) (length body))))
@@ -66,7 +66,7 @@ module _ (f : Form) where
           (sym (stands-later header_size (AckForm.checks (form_by f) (length body)) (AckForm.offsets (form_by f) (length body)) refl))
       go false false = refl
 
-  after : (v w : Standing) (h : Heard) → heard_or v (heard_or w h) ≡ heard_or (and_then v w) h
+  after : (v w : Standing) (h : Result Heard Fault) → heard_or v (heard_or w h) ≡ heard_or (and_then v w) h
   after (Ok _) w h = refl
   after (Err e) w h = refl
 
@@ -77,6 +77,6 @@ module _ (f : Form) where
       let first : Standing = standing (Frame.checks (length s) vs) (Frame.offsets (length s)) in
       let ds : List Check = tunnel_checks (service_in vs) (length (body_in s)) in
       let ps : List ℕ = tunnel_offsets (service_in vs) (length (body_in s)) in
-      let h : Heard = heard_of (service_in vs) (total_in vs) (body_in s) in
+      let h : Result Heard Fault = heard_of (service_in vs) (total_in vs) (body_in s) in
       ap (heard_or first) (in_order (service_in vs) (total_in vs) (body_in s)) ∙ after first (standing ds ps) h
       ∙ ap (λ (v : Standing). heard_or v h) (sym (stands_then (Frame.checks (length s) vs) ds (Frame.offsets (length s)) ps refl))

@@ -47,12 +47,12 @@ module _ (h : ConnectionHeader) (cemi b : List ℕ) where
   abbrev body : List ℕ
   body = TunnelingRequest.body h cemi
 
-  pub request-stands : (f : Form) → heard_in f (onto b (frame TunnellingRequest body)) ≡ Request h.channel_id h.sequence_counter (cemi_start + length cemi)
+  pub request-stands : (f : Form) → heard_in f (onto b (frame TunnellingRequest body)) ≡ Ok (Request h.channel_id h.sequence_counter (cemi_start + length cemi))
   request-stands f =
       let long : 6 + length body ≡ cemi_start + length cemi = omega arith in
       frame-heard f TunnellingRequest body b
       ∙ sym (requested body (6 + length body) (record { connection_header = h }) (sym (ConnectionLaws.reads_back h cemi)))
-      ∙ ap (Request h.channel_id h.sequence_counter) long
+      ∙ ap (λ (n : ℕ). Ok (Request h.channel_id h.sequence_counter n)) long
 
   pub cemi-stands : part_of (onto b (frame TunnellingRequest body)) cemi_start (cemi_start + length cemi) ≡ cemi
   cemi-stands =
@@ -62,14 +62,14 @@ module _ (h : ConnectionHeader) (cemi b : List ℕ) where
 module _ (f : Form) where
   -- an acknowledgement's bytes in a buffer
   pub ack-stands : (a : TunnelingAck) (b : List ℕ)
-      → heard_in f (onto b (frame TunnellingAck (AckForm.layout (form_by f) a))) ≡ Ack a.connection_header.channel_id a.connection_header.sequence_counter a.status
+      → heard_in f (onto b (frame TunnellingAck (AckForm.layout (form_by f) a))) ≡ Ok (Ack a.connection_header.channel_id a.connection_header.sequence_counter a.status)
   ack-stands a b =
       let w : List ℕ = AckForm.layout (form_by f) a in
       frame-heard f TunnellingAck w b ∙ sym (acked f w a (sym (ap (AckForm.parsed (form_by f)) (sym (append-nil w)) ∙ TunnelingAckLaws.reads_back_in f a [])))
 
   -- what the builders wrote
   pub request-heard : (t : TunnelingRequest) (cemi b : List ℕ) (n : ℕ) (after : List ℕ) → TunnelingRequest.BuildPromise t cemi b (Ok n) after
-      → (heard_in f after ≡ Request t.connection_header.channel_id t.connection_header.sequence_counter (cemi_start + length cemi))
+      → (heard_in f after ≡ Ok (Request t.connection_header.channel_id t.connection_header.sequence_counter (cemi_start + length cemi)))
       × (part_of after cemi_start (cemi_start + length cemi) ≡ cemi)
   request-heard t cemi b n after promised =
       let h : ConnectionHeader = t.connection_header in
@@ -78,7 +78,7 @@ module _ (f : Form) where
       (ap (heard_in f) stands ∙ request-stands h cemi b f, ap (λ (l : List ℕ). part_of l cemi_start (cemi_start + length cemi)) stands ∙ cemi-stands h cemi b)
 
   pub ack-heard : (a : TunnelingAck) (b : List ℕ) (n : ℕ) (after : List ℕ) → AckForm.BuildInPromise f a b (Ok n) after
-      → heard_in f after ≡ Ack a.connection_header.channel_id a.connection_header.sequence_counter a.status
+      → heard_in f after ≡ Ok (Ack a.connection_header.channel_id a.connection_header.sequence_counter a.status)
   ack-heard a b n after promised =
       ap (heard_in f) (wrote (AckForm.build_checks (form_by f) (length b)) (frame TunnellingAck (AckForm.layout (form_by f) a)) b n after promised).bytes ∙ ack-stands a b
 

@@ -23,72 +23,62 @@ pub const CHANNEL_OFFSET: usize = 7;
 pub enum Heard {
     Request { channel: u8, number: u8, end: usize },
     Ack { channel: u8, number: u8, status: u8 },
-    Refused(Fault),
 }
 
-pub fn hear(bytes: &[u8]) -> Heard
+pub fn hear(bytes: &[u8]) -> Result<Heard, Fault>
     ensures { HearPromise bytes.now result }
 {
     hear_in(Form::Crate, bytes)
 }
 
 // An acknowledgement is read in this form.
-pub fn hear_in(form: Form, bytes: &[u8]) -> Heard
+pub fn hear_in(form: Form, bytes: &[u8]) -> Result<Heard, Fault>
     ensures { HearInPromise form bytes.now result }
 {
-    match FrameFields::parse(bytes) {
-        Ok(frame) => in_frame(form, frame, bytes),
-        Err(fault) => Heard::Refused(fault),
-    }
+    let frame = FrameFields::parse(bytes)?;
+    in_frame(form, frame, bytes)
 }
 
 // The frame was accepted, so its body is taken without its checks.
-fn in_frame(form: Form, frame: FrameFields, bytes: &[u8]) -> Heard
+fn in_frame(form: Form, frame: FrameFields, bytes: &[u8]) -> Result<Heard, Fault>
     ensures { result ≡ in_frame form (code_of frame.header.service_type) frame.header.total_length (part_of bytes.now 6 frame.header.total_length) }
 {
     let header = frame.header;
-    let service_type = header.service_type;
     let end = header.total_length as usize;
     let body = wire::part(bytes, KnxnetIpHeader::SIZE, end);
-    let unfit = Fault {
-        why: Refusal::NotForTunnels,
-        at: 2,
-    };
-    match service_type {
+    match header.service_type {
         ServiceType::TunnellingRequest => in_request(body, end),
         ServiceType::TunnellingAck => in_ack(form, body),
-        ServiceType::ConnectRequest => Heard::Refused(unfit),
-        ServiceType::ConnectResponse => Heard::Refused(unfit),
-        ServiceType::ConnectionstateRequest => Heard::Refused(unfit),
-        ServiceType::ConnectionstateResponse => Heard::Refused(unfit),
-        ServiceType::DisconnectRequest => Heard::Refused(unfit),
-        ServiceType::DisconnectResponse => Heard::Refused(unfit),
+        _ => Err(Fault {
+            why: Refusal::NotForTunnels,
+            at: 2,
+        }),
     }
 }
 
-fn in_request(body: &[u8], end: usize) -> Heard
+fn in_request(body: &[u8], end: usize) -> Result<Heard, Fault>
     ensures { result ≡ request_in body.now end }
 {
     match TunnelingRequest::parse(body) {
-        Ok(request) => Heard::Request {
+        Ok(request) => Ok(Heard::Request {
             channel: request.connection_header.channel_id,
             number: request.connection_header.sequence_counter,
             end,
-        },
-        Err(fault) => Heard::Refused(in_body(fault)),
+        }),
+        Err(fault) => Err(in_body(fault)),
     }
 }
 
-fn in_ack(form: Form, body: &[u8]) -> Heard
+fn in_ack(form: Form, body: &[u8]) -> Result<Heard, Fault>
     ensures { result ≡ ack_in form body.now }
 {
     match TunnelingAck::parse_in(form, body) {
-        Ok(ack) => Heard::Ack {
+        Ok(ack) => Ok(Heard::Ack {
             channel: ack.connection_header.channel_id,
             number: ack.connection_header.sequence_counter,
             status: ack.status,
-        },
-        Err(fault) => Heard::Refused(in_body(fault)),
+        }),
+        Err(fault) => Err(in_body(fault)),
     }
 }
 
@@ -97,9 +87,8 @@ fn in_body(fault: Fault) -> Fault
     requires { header_size + fault.at < 18446744073709551616 }
     ensures { result ≡ later_fault header_size fault }
 {
-    let why = fault.why;
     Fault {
-        why,
+        why: fault.why,
         at: KnxnetIpHeader::SIZE + fault.at,
     }
 }

@@ -1,7 +1,6 @@
 -- Two tables compared call by call: where related tables answer every call alike and stay related, what is seen of a channel is the same of both, so isolation and opening carry over. Assumes nothing.
-use Rattle.std.specs.Prelude.{ℕ, ◌≡◌, refl, Bool, List, [], ◌∷◌}
+use Rattle.std.specs.Prelude.{ℕ, ◌≡◌, refl, Bool, List, [], ◌∷◌, Option}
 use Rattle.std.proofs.Common.{sym, ap, ◌∙◌}
-use Rattle.std.proofs.Math.Option.{Option}
 use Rattle.tunnel_model.specs.Firsts.{is_none}
 use Rattle.tunnel_model.specs.Store.{Chan, Machine, run, reached, names, seen, table_trace, Isolates, Others, Opens}
 

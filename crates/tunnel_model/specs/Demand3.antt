@@ -1,8 +1,7 @@
 -- Demand 3 for n places of any kind: isolation, one place for an id, opening refused exactly if n other ids are open. Assumes nothing.
-use Rattle.std.specs.Prelude.{ℕ, zero, suc, ◌+◌, ◌≤◌, ◌≡◌, Bool, true, false, List, leb, replicate}
+use Rattle.std.specs.Prelude.{ℕ, zero, suc, ◌+◌, ◌≤◌, ◌≡◌, Bool, true, false, List, leb, replicate, Option, None, Some}
 use Rattle.std.proofs.Math.Path.{refl, ap}
 use Rattle.std.proofs.Common.{sym, ◌∙◌, arith, leb-true, le-leb}
-use Rattle.std.proofs.Math.Option.{Option, none, some}
 use Rattle.std.proofs.Math.ListN.{length}
 use Rattle.std.proofs.lemmas.List.{length-replicate}
 use Rattle.tunnel_model.specs.Firsts.{one_if, is_id, is_none, first_of, count_of}
@@ -51,13 +50,13 @@ module _ (K : Kind Tunnel) (W : KindLaws K) (n : ℕ) where
   isolates before = isolates_from (reached chan (table_of K n) before) (reached_kept before)
 
   -- what the others do, refused datagrams included, makes no difference
-  pub no_difference : (before calls others : List Call) (b : ℕ) (p : Tunnel) → (table_of K n).look b (reached chan (table_of K n) before) ≡ some p
+  pub no_difference : (before calls others : List Call) (b : ℕ) (p : Tunnel) → (table_of K n).look b (reached chan (table_of K n) before) ≡ Some p
       → calls_of chan (names chan b) calls ≡ calls_of chan (names chan b) others
       → table_trace chan (table_of K n) (names chan b) b (reached chan (table_of K n) before) calls ≡ table_trace chan (table_of K n) (names chan b) b (reached chan (table_of K n) before) others
   no_difference before calls others b p e k =
-      isolates before calls b p e ∙ ap (λ (cs : List Call). lone_trace chan (some p) cs) k ∙ sym (isolates before others b p e)
+      isolates before calls b p e ∙ ap (λ (cs : List Call). lone_trace chan (Some p) cs) k ∙ sym (isolates before others b p e)
 
-  opening : (l : List K.Place) → Kept K W n l → (c : Call) (b : ℕ) → named c ≡ some b → opens c ≡ true → (table_of K n).look b l ≡ none → Opening chan (table_of K n) n b l c (step chan (store_of K) l c)
+  opening : (l : List K.Place) → Kept K W n l → (c : Call) (b : ℕ) → named c ≡ Some b → opens c ≡ true → (table_of K n).look b l ≡ None → Opening chan (table_of K n) n b l c (step chan (store_of K) l c)
   unfolding places_laws
   opening l v c b m o e = go ((store_of K).full c l) refl
     where

@@ -1,7 +1,6 @@
 -- "7 if open; 8 exactly if eight other ids are open; else r = s = 0, idle", on every table of n places that calls reach. Assumes nothing.
-use Rattle.std.specs.Prelude.{ℕ, ◌≡◌, refl, Bool, true, false, ◌↔◌, List}
+use Rattle.std.specs.Prelude.{ℕ, ◌≡◌, refl, Bool, true, false, ◌↔◌, List, Option, None, Some}
 use Rattle.std.proofs.Common.{arith, sym, ap, ◌∙◌}
-use Rattle.std.proofs.Math.Option.{Option, none, some}
 use Rattle.tunnel.specs.Rules.{afresh}
 use Rattle.tunnel.specs.declared.rules.Tunnel.{Tunnel}
 use Rattle.tunnel_model.specs.Firsts.{is_none}
@@ -18,9 +17,9 @@ module _ (K : Kind Tunnel) (n : ℕ) where
 
   pub record OpenSays (l : List K.Place) (b : ℕ) : Type 0 where
     pub seven : (number_opening l b ≡ 7) ↔ (is_none ((table_of K n).look b l) ≡ false)
-    pub eight : (number_opening l b ≡ 8) ↔ (((table_of K n).look b l ≡ none) × Others chan (table_of K n) n b l)
-    pub fresh : (table_of K n).look b l ≡ none → (Others chan (table_of K n) n b l → ⊥)
-        → (number_opening l b ≡ 0) × ((table_of K n).look b (step chan (store_of K) l (Open b)).1 ≡ some afresh)
+    pub eight : (number_opening l b ≡ 8) ↔ (((table_of K n).look b l ≡ None) × Others chan (table_of K n) n b l)
+    pub fresh : (table_of K n).look b l ≡ None → (Others chan (table_of K n) n b l → ⊥)
+        → (number_opening l b ≡ 0) × ((table_of K n).look b (step chan (store_of K) l (Open b)).1 ≡ Some afresh)
 
   module _ (W : KindLaws K) (before : List Call) (b : ℕ) where
     abbrev now : List K.Place
@@ -29,7 +28,7 @@ module _ (K : Kind Tunnel) (n : ℕ) where
     pub open_says : OpenSays now b
     open_says = go ((table_of K n).look b now) refl
       where
-        held : (t : Tunnel) → (table_of K n).look b now ≡ some t → OpenSays now b
+        held : (t : Tunnel) → (table_of K n).look b now ≡ Some t → OpenSays now b
         held t e =
             let is-7 : number_opening now b ≡ 7 = ap (λ (o : Option Tunnel). (step_at chan (store_of K) o b now (Open b)).0.0.number) e in
             record {
@@ -38,10 +37,10 @@ module _ (K : Kind Tunnel) (n : ℕ) where
               fresh = λ m others. none_some (sym m ∙ e);
             }
 
-        outcome : (table_of K n).look b now ≡ none → (f : Bool) → (store_of K).full (Open b) now ≡ f → (step chan (store_of K) now (Open b)).0 ≡ (opened chan (store_of K) f b now (Open b)).0
+        outcome : (table_of K n).look b now ≡ None → (f : Bool) → (store_of K).full (Open b) now ≡ f → (step chan (store_of K) now (Open b)).0 ≡ (opened chan (store_of K) f b now (Open b)).0
         outcome e f g = rw (e, g)
 
-        missing : (table_of K n).look b now ≡ none → (f : Bool) → (store_of K).full (Open b) now ≡ f → OpenSays now b
+        missing : (table_of K n).look b now ≡ None → (f : Bool) → (store_of K).full (Open b) now ≡ f → OpenSays now b
         missing e true f =
             let says : Opening chan (table_of K n) n b now (Open b) (step chan (store_of K) now (Open b)) = opens_as_said K W n before (Open b) b refl refl e in
             let is-8 : number_opening now b ≡ 8 = ap (λ (o : Outcome). o.0.number) (outcome e true f) in
@@ -62,5 +61,5 @@ module _ (K : Kind Tunnel) (n : ℕ) where
             }
 
         go : (o : Option Tunnel) → (table_of K n).look b now ≡ o → OpenSays now b
-        go none e = missing e ((store_of K).full (Open b) now) refl
-        go (some t) e = held t e
+        go None e = missing e ((store_of K).full (Open b) now) refl
+        go (Some t) e = held t e

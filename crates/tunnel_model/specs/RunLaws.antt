@@ -1,7 +1,6 @@
 -- A list of compiled calls folds into the run and the trace that demand 3 speaks of, so demand 3 holds of such lists: isolation, no difference, opening. Assumes nothing.
-use Rattle.std.specs.Prelude.{ℕ, ◌≡◌, refl, true, List, [], ◌∷◌}
+use Rattle.std.specs.Prelude.{ℕ, ◌≡◌, refl, true, List, [], ◌∷◌, None, Some}
 use Rattle.std.proofs.Common.{sym, ap, ◌∙◌, subst}
-use Rattle.std.proofs.Math.Option.{none, some}
 use Rattle.tunnel_model.specs.Store.{Chan, Machine, Seen, run, reached, names, seen, table_trace, lone_trace, calls_of, Isolates, Opening, Opens}
 use Rattle.tunnel_model.specs.Runs.{Ran, last_of, seen_by}
 
@@ -30,20 +29,20 @@ module _ (C : Chan) (M : Machine C) (Given : Type 0) (given_as : Given → C.Out
     there = folds start before gs x ∙ ap (λ (l : M.Table). run C M l before) begun
 
     -- with B open as p: whatever calls follow, what is seen of B is what the lone channel gives
-    pub run_isolates : Isolates C M → (calls : List C.Call) (hs : List Given) (b : ℕ) (p : C.State) → Ran C M Given given_as here calls hs → M.look b here ≡ some p
-        → seen_by C M Given given_as b here calls hs ≡ lone_trace C (some p) (calls_of C (names C b) calls)
+    pub run_isolates : Isolates C M → (calls : List C.Call) (hs : List Given) (b : ℕ) (p : C.State) → Ran C M Given given_as here calls hs → M.look b here ≡ Some p
+        → seen_by C M Given given_as b here calls hs ≡ lone_trace C (Some p) (calls_of C (names C b) calls)
     run_isolates law calls hs b p y e =
         traces b here calls hs y ∙ ap (λ (l : M.Table). table_trace C M (names C b) b l calls) there ∙ law before calls b p (ap (M.look b) (sym there) ∙ e)
 
     -- and two lists with the same calls of B show the same of B
     pub run_no_difference : Isolates C M → (calls others : List C.Call) (hs is : List Given) (b : ℕ) (p : C.State)
-        → Ran C M Given given_as here calls hs → Ran C M Given given_as here others is → M.look b here ≡ some p → calls_of C (names C b) calls ≡ calls_of C (names C b) others
+        → Ran C M Given given_as here calls hs → Ran C M Given given_as here others is → M.look b here ≡ Some p → calls_of C (names C b) calls ≡ calls_of C (names C b) others
         → seen_by C M Given given_as b here calls hs ≡ seen_by C M Given given_as b here others is
     run_no_difference law calls others hs is b p y z e k =
-        run_isolates law calls hs b p y e ∙ ap (lone_trace C (some p)) k ∙ sym (run_isolates law others is b p z e)
+        run_isolates law calls hs b p y e ∙ ap (lone_trace C (Some p)) k ∙ sym (run_isolates law others is b p z e)
 
     -- an opening call on B, which is not open
-    pub run-opens : (n : ℕ) → Opens C n M → (c : C.Call) (g : Given) (b : ℕ) → given_as g ≡ M.step here c → C.named c ≡ some b → C.opens c ≡ true → M.look b here ≡ none
+    pub run-opens : (n : ℕ) → Opens C n M → (c : C.Call) (g : Given) (b : ℕ) → given_as g ≡ M.step here c → C.named c ≡ Some b → C.opens c ≡ true → M.look b here ≡ None
         → Opening C M n b here c (given_as g)
     run-opens n law c g b p named opens closed =
         let at : Opening C M n b here c (M.step here c) =

@@ -1,12 +1,9 @@
 -- A search by index, turn by turn, and what it finds in the terms of `first_of` and `put_first`. Assumes nothing.
-use Rattle.std.specs.Prelude.{ℕ, suc, ◌+◌, ◌≤◌, ◌<◌, ◌≡◌, refl, Bool, true, false, cond, List, [], ◌∷◌, length, get_or, set, drop}
+use Rattle.std.specs.Prelude.{ℕ, suc, ◌+◌, ◌≤◌, ◌<◌, ◌≡◌, refl, Bool, true, false, cond, List, [], ◌∷◌, length, get_or, set, drop, None, Some}
 use Rattle.std.proofs.Common.{arith, add-one, ap, drop_of_length-le, drop-cons}
-use Rattle.std.proofs.Math.Option.{none, some}
 use Rattle.wire.specs.Clash.{never}
 use Rattle.tunnel_model.specs.Firsts.{first_of, put_first}
-use Rattle.tunnel_table.specs.Places.{seek}
-use Rattle.tunnel_table.specs.declared.places.Place.{Place}
-use Rattle.tunnel_table.specs.declared.places.Found.TheVariants.{At, Nothing}
+use Rattle.tunnel_table.specs.Places.{Place, seek}
 
 -- ---- one turn
 
@@ -14,10 +11,10 @@ module _ (q : Place → Bool) (l : List Place) (d : Place) (i : ℕ) (h : i < le
   pub seek_turn : q (get_or l i d) ≡ false → seek q i (drop i l) ≡ seek q (i + 1) (drop (i + 1) l)
   seek_turn e = rw (add-one i, drop-cons l i d h, e)
 
-  pub seek_hit : q (get_or l i d) ≡ true → seek q i (drop i l) ≡ At i
+  pub seek_hit : q (get_or l i d) ≡ true → seek q i (drop i l) ≡ Some i
   seek_hit e = rw (drop-cons l i d h, e)
 
-pub seek_end : (q : Place → Bool) (l : List Place) (i : ℕ) → length l ≤ i → seek q i (drop i l) ≡ Nothing
+pub seek_end : (q : Place → Bool) (l : List Place) (i : ℕ) → length l ≤ i → seek q i (drop i l) ≡ None
 seek_end q l i h = rw (drop_of_length-le l h)
 
 -- ---- what was found
@@ -25,23 +22,23 @@ seek_end q l i h = rw (drop_of_length-le l h)
 -- the first place that passes stands at j
 pub record Stands (q : Place → Bool) (l : List Place) (d : Place) (j : ℕ) : Type 0 where
   pub inside : j < length l
-  pub first : first_of q l ≡ some (get_or l j d)
+  pub first : first_of q l ≡ Some (get_or l j d)
   pub put : (v : Place) → put_first q v l ≡ set l j v
 
-pub seek-nothing : (q : Place → Bool) (l : List Place) (k : ℕ) → seek q k l ≡ Nothing → first_of q l ≡ none
+pub seek-nothing : (q : Place → Bool) (l : List Place) (k : ℕ) → seek q k l ≡ None → first_of q l ≡ None
 seek-nothing q [] k e = refl
 seek-nothing q (x ∷ l) k e = go (q x) e (seek-nothing q l (suc k))
   where
-    go : (b : Bool) → cond b (At k) (seek q (suc k) l) ≡ Nothing → (seek q (suc k) l ≡ Nothing → first_of q l ≡ none) → cond b (some x) (first_of q l) ≡ none
+    go : (b : Bool) → cond b (Some k) (seek q (suc k) l) ≡ None → (seek q (suc k) l ≡ None → first_of q l ≡ None) → cond b (Some x) (first_of q l) ≡ None
     go true e' ih = never cc
     go false e' ih = ih e'
 
-seek_from : (q : Place → Bool) (l : List Place) (d : Place) (k i : ℕ) → seek q k l ≡ At i → (j : ℕ) × (i ≡ k + j) × Stands q l d j
+seek_from : (q : Place → Bool) (l : List Place) (d : Place) (k i : ℕ) → seek q k l ≡ Some i → (j : ℕ) × (i ≡ k + j) × Stands q l d j
 seek_from q [] d k i e = never cc
 seek_from q (x ∷ l) d k i e = go (q x) refl e (seek_from q l d (suc k) i)
   where
-    go : (b : Bool) → q x ≡ b → cond b (At k) (seek q (suc k) l) ≡ At i
-        → (seek q (suc k) l ≡ At i → (j : ℕ) × (i ≡ suc k + j) × Stands q l d j)
+    go : (b : Bool) → q x ≡ b → cond b (Some k) (seek q (suc k) l) ≡ Some i
+        → (seek q (suc k) l ≡ Some i → (j : ℕ) × (i ≡ suc k + j) × Stands q l d j)
         → (j : ℕ) × (i ≡ k + j) × Stands q (x ∷ l) d j
     go true b e' ih =
         let s : k ≡ i = cc in
@@ -52,7 +49,7 @@ seek_from q (x ∷ l) d k i e = go (q x) refl e (seek_from q l d (suc k) i)
         let m = r.2.inside in
         (suc r.0, omega arith, record { inside = omega arith; first = rw b r.2.first; put = λ v. rw b (ap (λ (w : List Place). x ∷ w) (r.2.put v)) })
 
-pub seek-at : (q : Place → Bool) (l : List Place) (d : Place) (i : ℕ) → seek q 0 l ≡ At i → Stands q l d i
+pub seek-at : (q : Place → Bool) (l : List Place) (d : Place) (i : ℕ) → seek q 0 l ≡ Some i → Stands q l d i
 seek-at q l d i e =
     let r = seek_from q l d 0 i e in
     let n : r.0 ≡ i = (let m = r.1 in omega arith) in

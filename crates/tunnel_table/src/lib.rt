@@ -2,7 +2,8 @@
 #![tactic(auto)]
 
 mod places;
+mod spot;
 mod table;
 
-pub use places::{Hold, Place};
+pub use places::Held;
 pub use table::{Called, Table};

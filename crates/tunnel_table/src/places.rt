@@ -1,102 +1,60 @@
 // A place of the table, and the search for one.
 ghost use Rattle.std.specs.Prelude.{◌≡◌};
-ghost use Rattle.tunnel_model.specs.Places.{holds, free};
-ghost use Rattle.tunnel_table.specs.Places.{kind, tunnel_in, left_in, passing, seek, Below};
+ghost use Rattle.tunnel_table.specs.Places.{passing, tunnel_in, left_in};
+ghost use Rattle.tunnel_table.specs.Spots.{FindPromise};
 
+use crate::spot::Spot;
 use tunnel::Tunnel;
 
+// An open channel, as its place holds it; a free place holds none.
 #[derive(Clone, Copy)]
-pub enum Hold {
-    Free,
-    Held { id: u8, tunnel: Tunnel },
+pub struct Held {
+    pub id: u8,
+    pub tunnel: Tunnel,
 }
 
-#[derive(Clone, Copy)]
-pub struct Place {
-    pub hold: Hold,
-}
-
-// What is looked for: the place of a channel, or a free one.
-#[derive(Clone, Copy)]
-pub(crate) enum Wanted {
-    Channel(u8),
-    Free,
-}
-
-// What the search yields.
-#[derive(Clone, Copy)]
-pub(crate) enum Found {
-    At(usize),
-    Nothing,
-}
-
-// The first place that passes: an id that stands twice means its first place.
-pub(crate) fn find(places: [Place; 8], wanted: Wanted) -> Found
-    ensures value { result ≡ seek (passing wanted) 0 places }
-    ensures below { Below result }
+// The first place with this id, none for a free place: an id that stands twice means its first place.
+pub(crate) fn find(places: [Option<Held>; 8], id: Option<u8>) -> Option<Spot>
+    ensures { FindPromise places id result }
 {
     let mut i: usize = 0;
     let found = loop {
         if i == 8 {
-            break Found::Nothing;
+            break None;
         }
-        if passes(places[i], wanted) {
-            break Found::At(i);
+        if passes(places[i], id) {
+            break Some(Spot { at: i });
         }
         i += 1;
     };
     found
 }
 
-fn passes(p: Place, wanted: Wanted) -> bool
-    ensures { result ≡ passing wanted p }
+fn passes(place: Option<Held>, id: Option<u8>) -> bool
+    ensures { result ≡ passing id place }
 {
-    match wanted {
-        Wanted::Channel(id) => holds_id(p, id),
-        Wanted::Free => is_free(p),
-    }
-}
-
-fn holds_id(p: Place, id: u8) -> bool
-    ensures { result ≡ holds kind id p }
-{
-    let h = p.hold;
-    match h {
-        Hold::Free => false,
-        Hold::Held {
-            id: held,
-            tunnel: _,
-        } => held == id,
-    }
-}
-
-fn is_free(p: Place) -> bool
-    ensures { result ≡ free kind p }
-{
-    let h = p.hold;
-    match h {
-        Hold::Free => true,
-        Hold::Held { id: _, tunnel: _ } => false,
+    match place {
+        Some(held) => id == Some(held.id),
+        None => id.is_none(),
     }
 }
 
 // A free place counts as a fresh tunnel; no call looks there.
-pub(crate) fn tunnel_in(p: Place) -> Tunnel
-    ensures { result ≡ tunnel_in p.hold }
+pub(crate) fn tunnel_in(place: Option<Held>) -> Tunnel
+    ensures { result ≡ tunnel_in place }
 {
-    let h = p.hold;
-    match h {
-        Hold::Free => Tunnel::fresh(),
-        Hold::Held { id: _, tunnel } => tunnel,
+    match place {
+        Some(held) => held.tunnel,
+        None => Tunnel::fresh(),
     }
 }
 
 // What a place holds after a step of its channel.
-pub(crate) fn left_in(id: u8, left: Option<Tunnel>) -> Hold
+pub(crate) fn left_in(id: u8, left: Option<Tunnel>) -> Option<Held>
     ensures { result ≡ left_in id left }
 {
     match left {
-        Some(tunnel) => Hold::Held { id, tunnel },
-        None => Hold::Free,
+        Some(tunnel) => Some(Held { id, tunnel }),
+        None => None,
     }
 }

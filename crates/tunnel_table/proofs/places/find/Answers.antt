@@ -7,17 +7,14 @@ use Rattle.tunnel_table.proofs.places.find.Goals as goal
 pub loop-i-preserved : goal.loop-i-preserved
 loop-i-preserved c =
     let o = c.loop-i in
-    (search rules, o.invariant.1, o.invariant.2 ∙ seek_turn (passing c.args.wanted) _ _ o.i (omega arith) (sym c.passes.ensures ∙ c.if-passes.false))
+    (search rules, o.invariant.1, o.invariant.2 ∙ seek_turn (passing c.args.id) _ _ o.i (omega arith) (sym c.passes.ensures ∙ c.if-passes.false))
 
 pub returns-then-i-eq8 : goal.returns-then-i-eq8
 returns-then-i-eq8 c =
     let o = c.loop-i in
-    record { value = sym (o.invariant.2 ∙ seek_end (passing c.args.wanted) _ o.i (omega arith)); below = tt }
+    sym (o.invariant.2 ∙ seek_end (passing c.args.id) _ o.i (omega arith))
 
 pub returns-then-passes : goal.returns-then-passes
 returns-then-passes c =
     let o = c.loop-i in
-    record {
-      value = sym (o.invariant.2 ∙ seek_hit (passing c.args.wanted) _ _ o.i (omega arith) (sym c.passes.ensures ∙ c.if-passes.true));
-      below = omega arith;
-    }
+    sym (o.invariant.2 ∙ seek_hit (passing c.args.id) _ _ o.i (omega arith) (sym c.passes.ensures ∙ c.if-passes.true))
