@@ -1,62 +1,45 @@
 // A frame that borrows its bytes.
-ghost use Rattle.borrowed.specs.KnxnetIpFrame.{BorrowedPromise, ParsePromise, BodyViewPromise, BodyOfPromise, BodyPromise, BodyInPromise};
+ghost use Rattle.borrowed.specs.KnxnetIpFrame.{ParsePromise, BodyViewPromise, BodyPromise, BodyInPromise};
 
 use frame::FrameFields;
-use wire::{View, Fault};
+use wire::{Fault, View};
 
-// The bytes of the datagram, none where it is refused, and what parsing it answered.
+// The fields of a frame, and the bytes of its datagram.
 #[derive(Clone, Copy)]
 pub struct KnxnetIpFrame<'a> {
+    pub fields: FrameFields,
     pub data: &'a [u8],
-    pub answer: Result<FrameFields, Fault>,
 }
 
 impl<'a> KnxnetIpFrame<'a> {
-    pub fn parse(data: &'a [u8]) -> KnxnetIpFrame<'a>
+    pub fn parse(data: &'a [u8]) -> Result<KnxnetIpFrame<'a>, Fault>
         ensures { ParsePromise «data».now result }
     {
-        KnxnetIpFrame {
-            data: borrowed(data),
-            answer: FrameFields::parse(data),
-        }
+        let fields = FrameFields::parse(data)?;
+        Ok(KnxnetIpFrame { fields, data })
     }
 
+    // Empty for a frame that no parse made and whose body its bytes do not hold.
     pub fn body(self) -> &'a [u8]
         ensures { BodyPromise self.entry result.now }
     {
-        body_of(self.data, self.answer)
+        wire::shown(self.data, self.fields.body(self.data))
     }
 }
 
-// The body of a datagram, for a caller that has no frame.
+// The body of a datagram, for a caller that has no frame; empty where it is refused.
 pub fn body_in(datagram: &[u8]) -> &[u8]
     ensures { BodyInPromise datagram.now result.now }
 {
-    KnxnetIpFrame::parse(datagram).body()
-}
-
-// Where the body stands in what a frame borrows; a frame that no parse made is checked here.
-pub fn body_view(data: &[u8], answer: Result<FrameFields, Fault>) -> View
-    ensures { BodyViewPromise «data».now answer result }
-{
-    match answer {
-        Ok(frame) => frame.body(data),
-        Err(fault) => View::refused(fault),
-    }
-}
-
-fn borrowed(datagram: &[u8]) -> &[u8]
-    ensures { BorrowedPromise datagram.now result.now }
-{
-    match FrameFields::parse(datagram) {
-        Ok(_) => datagram,
+    match KnxnetIpFrame::parse(datagram) {
+        Ok(frame) => frame.body(),
         Err(_) => wire::part(datagram, 0, 0),
     }
 }
 
-fn body_of(data: &[u8], answer: Result<FrameFields, Fault>) -> &[u8]
-    ensures { BodyOfPromise «data».now answer result.now }
+// Where the body stands in what a frame borrows; a frame that no parse made is checked here.
+pub fn body_view(data: &[u8], answer: Result<FrameFields, Fault>) -> Result<View, Fault>
+    ensures { BodyViewPromise «data».now answer result }
 {
-    let view = body_view(data, answer);
-    wire::part(data, view.start, view.end)
+    answer?.body(data)
 }

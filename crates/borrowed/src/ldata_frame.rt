@@ -1,31 +1,32 @@
 // An L_Data frame that borrows its data, in the crate's count or in the one that a call is given.
-ghost use Rattle.borrowed.specs.LDataFrame.{ParsePromise, ParseInPromise, DataPromise, FrameDataInPromise, DataInPromise, DataInCountPromise, DataViewPromise, DataViewInPromise, BorrowedViewPromise, DataOfInPromise};
+ghost use Rattle.borrowed.specs.LDataFrame.{ParsePromise, ParseInPromise, DataPromise, FrameDataInPromise, DataInPromise, DataInCountPromise, DataViewPromise, DataViewInPromise, BorrowedViewPromise};
 
 use ldata::{Counting, LDataFields};
 use wire::{Fault, Refusal, View};
 
-// The application data, none where the frame is refused, and what parsing it answered.
+// The fields of a frame, and its application data.
 #[derive(Clone, Copy)]
 pub struct LDataFrame<'a> {
+    pub fields: LDataFields,
     pub data: &'a [u8],
-    pub answer: Result<LDataFields, Fault>,
 }
 
 impl<'a> LDataFrame<'a> {
     // In the crate's count, as in the Rust.
-    pub fn parse(data: &'a [u8]) -> LDataFrame<'a>
+    pub fn parse(data: &'a [u8]) -> Result<LDataFrame<'a>, Fault>
         ensures { ParsePromise «data».now result }
     {
         LDataFrame::parse_in(Counting::Crate, data)
     }
 
-    pub fn parse_in(counting: Counting, data: &'a [u8]) -> LDataFrame<'a>
+    pub fn parse_in(counting: Counting, data: &'a [u8]) -> Result<LDataFrame<'a>, Fault>
         ensures { ParseInPromise counting «data».now result }
     {
-        LDataFrame {
-            data: borrowed(counting, data),
-            answer: LDataFields::parse_in(counting, data),
-        }
+        let fields = LDataFields::parse_in(counting, data)?;
+        Ok(LDataFrame {
+            fields,
+            data: fields.data_part_in(counting, data),
+        })
     }
 
     // In the crate's count.
@@ -35,44 +36,52 @@ impl<'a> LDataFrame<'a> {
         self.data_in(Counting::Crate)
     }
 
+    // Empty for a frame that no parse made and that does not hold its data.
     pub fn data_in(self, counting: Counting) -> &'a [u8]
         ensures { FrameDataInPromise counting self.entry result.now }
     {
-        data_of(counting, self.data, self.answer)
+        wire::shown(
+            self.data,
+            data_view_in(counting, self.data, Ok(self.fields)),
+        )
     }
 }
 
-// The application data of an L_Data frame, for a caller that has none.
+// The application data of an L_Data frame, for a caller that has none; empty where it is refused.
 pub fn data_in(bytes: &[u8]) -> &[u8]
     ensures { DataInPromise bytes.now result.now }
 {
-    LDataFrame::parse(bytes).data()
+    data_in_count(Counting::Crate, bytes)
 }
 
 pub fn data_in_count(counting: Counting, bytes: &[u8]) -> &[u8]
     ensures { DataInCountPromise counting bytes.now result.now }
 {
-    LDataFrame::parse_in(counting, bytes).data_in(counting)
+    match LDataFrame::parse_in(counting, bytes) {
+        Ok(frame) => frame.data_in(counting),
+        Err(_) => wire::part(bytes, 0, 0),
+    }
 }
 
 // Where the data stands in what a frame borrows; a frame that no parse made is checked here.
-pub fn data_view(data: &[u8], answer: Result<LDataFields, Fault>) -> View
+pub fn data_view(data: &[u8], answer: Result<LDataFields, Fault>) -> Result<View, Fault>
     ensures { DataViewPromise «data».now answer result }
 {
     data_view_in(Counting::Crate, data, answer)
 }
 
-pub fn data_view_in(counting: Counting, data: &[u8], answer: Result<LDataFields, Fault>) -> View
+pub fn data_view_in(
+    counting: Counting,
+    data: &[u8],
+    answer: Result<LDataFields, Fault>,
+) -> Result<View, Fault>
     ensures { DataViewInPromise counting «data».now answer result }
 {
-    match answer {
-        Ok(frame) => borrowed_view(counting, data, frame),
-        Err(fault) => View::refused(fault),
-    }
+    borrowed_view(counting, data, answer?)
 }
 
 // The frame's data alone is borrowed, so all of it stands from the start on.
-fn borrowed_view(counting: Counting, data: &[u8], frame: LDataFields) -> View
+fn borrowed_view(counting: Counting, data: &[u8], frame: LDataFields) -> Result<View, Fault>
     ensures { BorrowedViewPromise counting «data».now frame result }
 {
     let tpci = frame.tpci;
@@ -84,31 +93,13 @@ fn borrowed_view(counting: Counting, data: &[u8], frame: LDataFields) -> View
         at: 6,
     };
     if start + data.len() < end {
-        return View::refused(fault);
+        return Err(fault);
     }
     if counting.allows(is_data, frame.npdu_length) {
-        return View {
-            number: 0,
+        return Ok(View {
             start: 0,
             end: end - start,
-            offset: 0,
-        };
+        });
     }
-    View::refused(fault)
-}
-
-fn data_of(counting: Counting, data: &[u8], answer: Result<LDataFields, Fault>) -> &[u8]
-    ensures { DataOfInPromise counting «data».now answer result.now }
-{
-    let view = data_view_in(counting, data, answer);
-    wire::part(data, view.start, view.end)
-}
-
-fn borrowed(counting: Counting, bytes: &[u8]) -> &[u8]
-    ensures { DataInCountPromise counting bytes.now result.now }
-{
-    match LDataFields::parse_in(counting, bytes) {
-        Ok(frame) => frame.data_part_in(counting, bytes),
-        Err(_) => wire::part(bytes, 0, 0),
-    }
+    Err(fault)
 }

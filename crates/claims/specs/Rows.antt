@@ -25,7 +25,7 @@ use Rattle.tunnel_table.specs.declared.places.Place.{Place}
 use Rattle.claims.specs.Examples.{request, room}
 
 abbrev as_frame : List ℕ → ℕ
-as_frame s = (Ok.parse_by01 s).number
+as_frame s = (Frame.parse_by01 s).number
 
 abbrev as_header : List ℕ → ℕ
 as_header s = (Header.parse_by01 s).number
@@ -68,8 +68,8 @@ pub record P : Type 0 where
   pub service : as_frame (0x06 ∷ 0x10 ∷ 0xFF ∷ 0xFF ∷ 0x00 ∷ 0x06 ∷ []) ≡ 4
   pub total_as_frame : as_frame (0x06 ∷ 0x10 ∷ 0x04 ∷ 0x20 ∷ 0x00 ∷ 0x05 ∷ []) ≡ 2
   pub total_as_header : as_header (0x06 ∷ 0x10 ∷ 0x04 ∷ 0x20 ∷ 0x00 ∷ 0x05 ∷ []) ≡ 0
-  pub bare-frame : Ok.parse_by01 bare ≡ Ok.told (Ok (built TunnellingRequest []))
-  pub bare-body : Ok.body_by01 (built TunnellingRequest []) bare ≡ viewed 6 6
+  pub bare-frame : Frame.parse_by01 bare ≡ Frame.told (Ok (built TunnellingRequest []))
+  pub bare-body : Frame.body_by01 (built TunnellingRequest []) bare ≡ viewed 6 6
   pub bare_datagram : (l : List Place) (out : List ℕ) → step chan (store_of kind) l (Datagram bare out) ≡ (refuses_at (record { why = BufferTooSmall; at = 6 }) out, l)
   pub write_2A : as_ldata (ldata 3 (0x00 ∷ 0x80 ∷ 0x2A ∷ [])) ≡ LData.told (Ok (group_write 3))
   pub write_2A_data : data_in (group_write 3) (ldata 3 (0x00 ∷ 0x80 ∷ 0x2A ∷ [])) ≡ 0x2A ∷ []

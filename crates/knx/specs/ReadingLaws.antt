@@ -37,19 +37,19 @@ body_of_lem (Err e) vs = simp (ne_eqb (number_of e) 0 (never_done e))
 pub judged-frame : (s : List ℕ) (j : Result Judged Fault) → Judging.JudgePromise s j → with_body (Judging.told j) ≡ frame_where s
 judged-frame s j p =
     ap with_body p
-    ∙ ap (located (Ok.checks (length s) (get fields 0 s)) (Ok.offsets (length s))) (body_of_lem (verdict (Ok.checks (length s) (get fields 0 s))) (get fields 0 s))
+    ∙ ap (located (Frame.checks (length s) (get fields 0 s)) (Frame.offsets (length s))) (body_of_lem (verdict (Frame.checks (length s) (get fields 0 s))) (get fields 0 s))
 
 -- the view of a frame is the one that `FrameFields::body` answers
-pub body_as : (s : List ℕ) (r : KnxFrame) (f : FrameFields) (v : Result View Fault) → FramePromise s r → Ok.ParsePromise s (Ok f) → Ok.BodyPromise f s v
+pub body_as : (s : List ℕ) (r : KnxFrame) (f : FrameFields) (v : Result View Fault) → FramePromise s r → Frame.ParsePromise s (Ok f) → Frame.BodyPromise f s v
     → (r.start ≡ v.start) × (r.end ≡ v.end)
 body_as s r f v p q w =
     let vs : List ℕ = get fields 0 s in
-    let cs : List Check = Ok.checks (length s) vs in
-    let same-values : values f.header ≡ vs = ap (λ (t : Told). t.values) (let_through cs (done vs) (Ok.told (Ok f)) refl q) in
-    let passed : verdict cs ≡ verdict [] = was_accepted cs (done vs) (Ok.told (Ok f)) refl q in
-    let of-r : told_frame r ≡ frame_in vs = p ∙ located_pass cs (Ok.offsets (length s)) (frame_in vs) refl refl passed in
-    let body : List ℕ → Told = λ us. located (Ok.checks (length s) us) (Ok.offsets (length s)) (judged (Ok.checks (length s) us) (viewed 6 (total_in us))) in
-    let of-v : Parts.told v ≡ viewed 6 (total_in vs) = w ∙ ap body same-values ∙ located_pass cs (Ok.offsets (length s)) (viewed 6 (total_in vs)) refl refl passed in
+    let cs : List Check = Frame.checks (length s) vs in
+    let same-values : values f.header ≡ vs = ap (λ (t : Told). t.values) (let_through cs (done vs) (Frame.told (Ok f)) refl q) in
+    let passed : verdict cs ≡ verdict [] = was_accepted cs (done vs) (Frame.told (Ok f)) refl q in
+    let of-r : told_frame r ≡ frame_in vs = p ∙ located_pass cs (Frame.offsets (length s)) (frame_in vs) refl refl passed in
+    let body : List ℕ → Told = λ us. located (Frame.checks (length s) us) (Frame.offsets (length s)) (judged (Frame.checks (length s) us) (viewed 6 (total_in us))) in
+    let of-v : Parts.told v ≡ viewed 6 (total_in vs) = w ∙ ap body same-values ∙ located_pass cs (Frame.offsets (length s)) (viewed 6 (total_in vs)) refl refl passed in
     (ap (λ (t : Told). t.start) of-r ∙ sym (ap (λ (t : Told). t.start) of-v), ap (λ (t : Told). t.end) of-r ∙ sym (ap (λ (t : Told). t.end) of-v))
 
 -- ---- no second answer
