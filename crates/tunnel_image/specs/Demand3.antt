@@ -9,8 +9,7 @@ use Rattle.tunnel_model.specs.Alike.{Alike, reached_both, isolates_alike, opens_
 use Rattle.tunnel_model.specs.Calls.{Call, Outcome, out_of, refuses}
 use Rattle.tunnel_model.specs.Table.{chan, store_of, empty_of, table_of}
 use Rattle.tunnel_model.specs.Demand3.{isolates, opens_as_said, one_place}
-use Rattle.tunnel_table.specs.Places.{kind, kind_laws}
-use Rattle.tunnel_table.specs.declared.places.Place.{Place}
+use Rattle.tunnel_table.specs.Places.{Place, kind, kind_laws}
 use Rattle.tunnel_image.specs.Image.{packed, unpacked, on_image}
 use Rattle.tunnel_image.specs.ImageLaws.{back, image_step, image_leaves}
 

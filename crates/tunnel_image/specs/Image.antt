@@ -1,5 +1,5 @@
 -- The byte image of a tunnel table: eight places of five bytes, what every value of every byte means, and what a call does to an image. Assumes nothing.
-use Rattle.std.specs.Prelude.{ℕ, zero, suc, ◌+◌, ◌≡◌, cond, List, [], ◌∷◌, ◌++◌, length, get_or, eqb, ltb, Result}
+use Rattle.std.specs.Prelude.{ℕ, zero, suc, ◌+◌, ◌≡◌, cond, List, [], ◌∷◌, ◌++◌, length, get_or, eqb, ltb, Result, Some, None}
 use Rattle.wire.specs.Layout.{Field, byte, put, get}
 use Rattle.wire.specs.Writing.{onto, WritePromise}
 use Rattle.wire.specs.declared.refusals.Refusal.TheVariants.{BufferTooSmall}
@@ -7,10 +7,7 @@ use Rattle.tunnel.specs.Numbers.{wait_number, wait_of}
 use Rattle.tunnel_model.specs.Store.{step}
 use Rattle.tunnel_model.specs.Calls.{Call, Outcome, out_of, refuses}
 use Rattle.tunnel_model.specs.Table.{chan, store_of}
-use Rattle.tunnel_table.specs.Places.{kind}
-use Rattle.tunnel_table.specs.declared.places.Hold.{Hold}
-use Rattle.tunnel_table.specs.declared.places.Hold.TheVariants.{Free, Held}
-use Rattle.tunnel_table.specs.declared.places.Place.{Place}
+use Rattle.tunnel_table.specs.Places.{Place, kind, held}
 use Rattle.tunnel_table.specs.declared.table.Table.{Table}
 use Rattle.wire.specs.declared.refusals.Refusal.{Refusal}
 
@@ -36,19 +33,19 @@ abbrev wait_in : List ℕ → ℕ
 wait_in vs = get_or vs 4 0
 
 -- written: a free place is five zeros
-abbrev pub values : Hold → List ℕ
-values Free = 0 ∷ 0 ∷ 0 ∷ 0 ∷ 0 ∷ []
-values (Held b t) = 1 ∷ b ∷ t.r ∷ t.s ∷ wait_number t.w ∷ []
+abbrev pub values : Place → List ℕ
+values None = 0 ∷ 0 ∷ 0 ∷ 0 ∷ 0 ∷ []
+values (Some h) = 1 ∷ h.id ∷ h.tunnel.r ∷ h.tunnel.s ∷ wait_number h.tunnel.w ∷ []
 
 -- read: 0 is free, whatever stands in the other four; every other number is held, and id, r and s mean themselves
-abbrev pub hold_of : List ℕ → Hold
-hold_of vs = cond (eqb (held_in vs) 0) Free (Held (id_in vs) (record { r = r_in vs; s = s_in vs; w = wait_of (wait_in vs) }))
+abbrev pub place_of : List ℕ → Place
+place_of vs = cond (eqb (held_in vs) 0) None (held (id_in vs) (record { r = r_in vs; s = s_in vs; w = wait_of (wait_in vs) }))
 
 abbrev pub layout : Place → List ℕ
-layout p = put fields (values p.hold)
+layout p = put fields (values p)
 
 abbrev pub place_at : List ℕ → ℕ → Place
-place_at image at = record { hold = hold_of (get fields at image) }
+place_at image at = place_of (get fields at image)
 
 -- ---- a table: place behind place
 

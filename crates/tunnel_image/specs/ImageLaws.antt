@@ -1,5 +1,5 @@
 -- Laws of `Image`: what was packed is unpacked again; a table is written place by place; a call on an image of 40 bytes or more is one step of the table that it holds. Assumes nothing.
-use Rattle.std.specs.Prelude.{ℕ, ◌+◌, ◌*◌, ◌<◌, ◌≤◌, ◌≡◌, refl, Bool, true, false, cond, List, [], ◌∷◌, ◌++◌, length, take, drop, get_or, eqb, ltb, Result}
+use Rattle.std.specs.Prelude.{ℕ, ◌+◌, ◌*◌, ◌<◌, ◌≤◌, ◌≡◌, refl, Bool, true, false, cond, List, [], ◌∷◌, ◌++◌, length, take, drop, get_or, eqb, ltb, Result, None, Some}
 use Rattle.std.proofs.Common.{add-one, arith, sym, ap, ◌∙◌, append_assoc, length-append, take-suc, take_all, length-take-le, lt-ltb, le-ltb, eqb-true}
 use Rattle.std.proofs.lemmas.Bool.{eqb-false}
 use Rattle.wire.specs.Told.{nowhere}
@@ -15,23 +15,20 @@ use Rattle.tunnel_model.specs.PlacesLaws.{step_long}
 use Rattle.tunnel_model.specs.Calls.{Call, Outcome, out_of, refuses}
 use Rattle.tunnel_model.specs.Refusing.{IsRefusal, Clean, refusal-zeros, table_leaves}
 use Rattle.tunnel_model.specs.Table.{chan, store_of}
-use Rattle.tunnel_table.specs.Places.{kind, kind_laws}
+use Rattle.tunnel_table.specs.Places.{Place, held, kind, kind_laws}
 use Rattle.tunnel_table.specs.declared.table.Table.{Table}
-use Rattle.tunnel_table.specs.declared.places.Hold.{Hold}
-use Rattle.tunnel_table.specs.declared.places.Hold.TheVariants.{Free, Held}
-use Rattle.tunnel_table.specs.declared.places.Place.{Place}
-use Rattle.tunnel_image.specs.Image.{fields, values, hold_of, layout, packed, places_from, unpacked, UnpackPromise, PackPromise, packed_onto, step_in, on_image}
+use Rattle.tunnel_image.specs.Image.{fields, values, place_of, layout, packed, places_from, unpacked, UnpackPromise, PackPromise, packed_onto, step_in, on_image}
 use Rattle.wire.specs.declared.refusals.Refusal.{Refusal}
 
 -- ---- there and back
 
-hold_back : (h : Hold) → hold_of (values h) ≡ h
-hold_back Free = refl
-hold_back (Held b t) = ap (λ (w : Wait). Held b (record { r = t.r; s = t.s; w = w })) (wait_back t.w)
+place_back : (p : Place) → place_of (values p) ≡ p
+place_back None = refl
+place_back (Some h) = ap (λ (w : Wait). held h.id (record { r = h.tunnel.r; s = h.tunnel.s; w = w })) (wait_back h.tunnel.w)
 
-five : (h : Hold) → length (values h) ≡ 5
-five Free = refl
-five (Held b t) = refl
+five : (p : Place) → length (values p) ≡ 5
+five None = refl
+five (Some h) = refl
 
 -- the places that stand behind pre
 places_back : (l : List Place) (pre rest : List ℕ) (at : ℕ) → length pre ≡ at → places_from (length l) (pre ++ (packed l ++ rest)) at ≡ l
@@ -39,10 +36,10 @@ places_back [] pre rest at e = refl
 places_back (p ∷ l) pre rest at e =
     let image : List ℕ = pre ++ (layout p ++ (packed l ++ rest)) in
     let next : image ≡ (pre ++ layout p) ++ (packed l ++ rest) = sym (append_assoc pre (layout p) (packed l ++ rest)) in
-    let first : hold_of (get fields at image) ≡ p.hold = ap hold_of (get-put fields (values p.hold) pre (packed l ++ rest) at e (five p.hold)) ∙ hold_back p.hold in
+    let first : place_of (get fields at image) ≡ p = ap place_of (get-put fields (values p) pre (packed l ++ rest) at e (five p)) ∙ place_back p in
     let later : places_from (length l) image (at + 5) ≡ l =
     ap (λ (s : List ℕ). places_from (length l) s (at + 5)) next ∙ places_back l (pre ++ layout p) rest (at + 5) (length-append pre (layout p) ∙ omega (arith, e)) in
-    ap (λ (h : Hold). record { hold = h } ∷ places_from (length l) image (at + 5)) first ∙ ap (λ (m : List Place). p ∷ m) later
+    ap (λ (q : Place). q ∷ places_from (length l) image (at + 5)) first ∙ ap (λ (m : List Place). p ∷ m) later
 
 pub back : (l : List Place) (rest : List ℕ) → length l ≡ 8 → unpacked (packed l ++ rest) ≡ l
 back l rest eight = ap (λ (n : ℕ). places_from n (packed l ++ rest) 0) (sym eight) ∙ places_back l [] rest 0 refl

@@ -4,7 +4,7 @@ ghost use Rattle.wire.specs.Layout.{copied};
 ghost use Rattle.tunnel_image.specs.Image.{place_at, layout, UnpackPromise, PackPromise};
 
 use tunnel::{Tunnel, Wait};
-use tunnel_table::{Hold, Place, Table};
+use tunnel_table::{Held, Table};
 use wire::Refusal;
 
 pub const SIZE: usize = 40;
@@ -27,56 +27,51 @@ pub fn unpack(image: &[u8]) -> Table
 }
 
 // The image of a table's places.
-pub fn pack(places: [Place; 8], image: &mut [u8]) -> Result<usize, Refusal>
+pub fn pack(places: [Option<Held>; 8], image: &mut [u8]) -> Result<usize, Refusal>
     ensures { PackPromise places image.old result image.new }
 {
     if image.len() < SIZE {
         return Err(Refusal::BufferTooSmall);
     }
-    let mut i = 0;
-    while i < 8 {
-        put_place(places[i], image, i * 5);
-        i += 1;
+    for (i, place) in places.iter().enumerate() {
+        put_place(*place, image, i * 5);
     }
     Ok(SIZE)
 }
 
-fn place_at(image: &[u8], at: usize) -> Place
+fn place_at(image: &[u8], at: usize) -> Option<Held>
     requires { at ≤ 35 }
     ensures { result ≡ place_at image.now at }
 {
     if wire::byte_at(image, at) == 0 {
-        return Place { hold: Hold::Free };
+        return None;
     }
     let tunnel = Tunnel {
         r: wire::byte_at(image, at + 2),
         s: wire::byte_at(image, at + 3),
         w: Wait::from_u8(wire::byte_at(image, at + 4)),
     };
-    Place {
-        hold: Hold::Held {
-            id: wire::byte_at(image, at + 1),
-            tunnel,
-        },
-    }
+    Some(Held {
+        id: wire::byte_at(image, at + 1),
+        tunnel,
+    })
 }
 
-fn put_place(p: Place, image: &mut [u8], at: usize)
-    ensures { image.new ≡ copied (layout p) image.old at }
+fn put_place(place: Option<Held>, image: &mut [u8], at: usize)
+    ensures { image.new ≡ copied (layout place) image.old at }
 {
-    let bytes = place_bytes(p);
+    let bytes = place_bytes(place);
     wire::copy_at(&bytes, image, at);
 }
 
-fn place_bytes(p: Place) -> [u8; 5]
-    ensures { result ≡ layout p }
+fn place_bytes(place: Option<Held>) -> [u8; 5]
+    ensures { result ≡ layout place }
 {
-    let h = p.hold;
-    match h {
-        Hold::Free => [0, 0, 0, 0, 0],
-        Hold::Held { id, tunnel } => {
-            let w = tunnel.w;
-            [1, id, tunnel.r, tunnel.s, w.number()]
+    match place {
+        Some(held) => {
+            let tunnel = held.tunnel;
+            [1, held.id, tunnel.r, tunnel.s, tunnel.w.number()]
         }
+        None => [0; 5],
     }
 }

@@ -1,11 +1,8 @@
--- After i turns the first i places are packed; what is left of the eight falls. Assumes nothing.
-use Rattle.std.proofs.Common.{◌≤◌, ◌-◌, ◌≡◌, length, take}
+-- After i turns the first i places are packed. Assumes nothing.
+use Rattle.std.proofs.Common.{◌≤◌, ◌≡◌, length, take}
 use Rattle.wire.specs.Writing.{onto}
 use Rattle.tunnel_image.specs.Image.{packed}
 use Rattle.tunnel_image.proofs.image.pack.Given as goal
 
 abbrev pub invariant-loop-i : goal.invariant-loop-i
-invariant-loop-i l = (l.i ≤ 8) × (length l.places ≡ 8) × (l.image ≡ onto l.initial.image (packed (take l.i l.places))) × (length l.image ≡ length l.initial.image)
-
-abbrev pub decreases-loop-i : goal.decreases-loop-i
-decreases-loop-i l = 8 - l.i
+invariant-loop-i l = (l.i ≤ 8) × (length l.fn.places ≡ 8) × (l.image ≡ onto l.initial.image (packed (take l.i l.fn.places))) × (length l.image ≡ length l.initial.image)
