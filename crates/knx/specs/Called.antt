@@ -1,5 +1,5 @@
 -- What the border's calls on the table promise: the image that is lent takes one step of 01's table. Assumes nothing.
-use Rattle.std.specs.Prelude.{ℕ, ◌≡◌, cond, List, [], ◌∷◌, length, eqb}
+use Rattle.std.specs.Prelude.{ℕ, ◌≡◌, List, [], ◌∷◌, length, Result, Ok, Err}
 use Rattle.wire.specs.Told.{Told, refused}
 use Rattle.wire.specs.Writing.{leaves, room}
 use Rattle.wire.specs.declared.refusals.Fault.{Fault}
@@ -51,11 +51,10 @@ EmptyPromise image r after = Tells (PackPromise (empty_of kind 8) image) r after
 
 -- ---- the code's parts
 
-abbrev pub KeepPromise : Called → List ℕ → List ℕ → Type 0
-KeepPromise q image after = after ≡ cond (eqb q.number 0) (leaves (room (length (packed q.table.places)) (length image) ∷ []) (packed q.table.places) image) image
-
-abbrev pub CalledPromise : Called → KnxCalled → Type 0
-CalledPromise q r = told r ≡ Table.told q
-
 abbrev pub RefusedPromise : Fault → KnxCalled → Type 0
 RefusedPromise e r = told r ≡ refused 2 e
+
+-- what the table gave is told, and the image is that of the table afterwards; a refusal leaves it as it was
+abbrev pub KeepPromise : Result Called Fault → List ℕ → KnxCalled → List ℕ → Type 0
+KeepPromise (Ok q) image r after = (told r ≡ Table.told q) × (after ≡ leaves (room (length (packed q.table.places)) (length image) ∷ []) (packed q.table.places) image)
+KeepPromise (Err e) image r after = RefusedPromise e r × (after ≡ image)

@@ -12,18 +12,16 @@ use Rattle.wire.specs.Writing.{onto, leaves, room}
 use Rattle.tunnelling.specs.declared.form.Form.{Form}
 use Rattle.tunnel_model.specs.Calls.{Call, DatagramIn, Outcome, out_of}
 use Rattle.tunnel_datagram.specs.Hearing.{heard_in}
-use Rattle.tunnel_datagram.specs.declared.hearing.Heard.TheVariants as Heard
 use Rattle.tunnel_table.specs.TableLaws.{step-heard}
 use Rattle.tunnel_table.specs.Table as Table
-use Rattle.tunnel_table.specs.declared.places.Place.{Place}
 use Rattle.tunnel_table.specs.declared.table.Table.{Table}
 use Rattle.tunnel_table.specs.declared.table.Called.{Called}
 use Rattle.tunnel_model.specs.Store.{step}
 use Rattle.tunnel_model.specs.Table.{chan, store_of, empty_of}
-use Rattle.tunnel_table.specs.Places.{kind}
+use Rattle.tunnel_table.specs.Places.{Place, kind}
 use Rattle.tunnel_image.specs.Image.{packed, unpacked, UnpackPromise, PackPromise, packed_onto, step_in}
 use Rattle.tunnel_image.specs.ImageLaws.{forty, in_long, on_small, on_enough, LeavesImage, image_leaves, pack_one}
-use Rattle.knx.specs.Called.{told, CallPromise, KeepPromise, CalledPromise, RefusedPromise, EmptyPromise}
+use Rattle.knx.specs.Called.{told, CallPromise, KeepPromise, RefusedPromise, EmptyPromise}
 use Rattle.tunnel_image.specs.Demand3.{empty_image}
 use Rattle.knx.specs.Building.{WrittenPromise}
 use Rattle.knx.specs.BuildingLaws.{tells_one}
@@ -43,15 +41,22 @@ unheard_call f image bytes out e r enough h p =
     ∙ ap (packed_onto image) (step-heard f (unpacked image) bytes out (Err e) h) ∙ sym (on_enough image (DatagramIn f bytes out) enough)
 
 -- the image is unpacked, the table is called, and what it gave is kept
-pub packed_call : (image : List ℕ) (c : Call) (t : Table) (q : Called) (out : List ℕ) (r : KnxCalled) (after : List ℕ) → 40 ≤ length image
-    → UnpackPromise image t → Table.CallPromise t c q out → KeepPromise q image after → CalledPromise q r → CallPromise image c r after out
-packed_call image c t q out r after enough u p k tells =
+pub packed_call : (image : List ℕ) (c : Call) (t : Table) (q : Result Called Fault) (out : List ℕ) (r : KnxCalled) (after : List ℕ) → 40 ≤ length image
+    → UnpackPromise image t → Table.CallPromise t c q out → KeepPromise q image r after → CallPromise image c r after out
+packed_call image c t (Ok q) out r after enough u p k =
     let l : List Place = q.table.places in
-    let stepped : Table.called_as q out ≡ step_in image c = p ∙ ap (λ (m : List Place). step chan (store_of kind) m c) u in
+    let stepped : Table.called_as t (Ok q) out ≡ step_in image c = p ∙ ap (λ (m : List Place). step chan (store_of kind) m c) u in
     let long : length (packed l) ≡ 40 = forty l (ap (λ (x : Outcome × List Place). length x.1) stepped ∙ in_long image c) in
     let fits : leaves (room (length (packed l)) (length image) ∷ []) (packed l) image ≡ onto image (packed l) = simp (le-ltb (length image) (length (packed l)) (omega (arith, long))) in
-    ap (λ (x : Told). ((x, out), after)) tells
-    ∙ ap (λ (s : List ℕ). ((Table.told q, out), s)) (k ∙ ap (λ (s : List ℕ). cond (eqb q.number 0) s image) fits)
+    ap (λ (x : Told). ((x, out), after)) k.0
+    ∙ ap (λ (s : List ℕ). ((Table.told q, out), s)) (k.1 ∙ fits)
+    ∙ ap (packed_onto image) stepped
+    ∙ sym (on_enough image c enough)
+packed_call image c t (Err e) out r after enough u p k =
+    let stepped : Table.called_as t (Err e) out ≡ step_in image c = p ∙ ap (λ (m : List Place). step chan (store_of kind) m c) u in
+    ap (λ (x : Told). ((x, out), after)) k.0
+    ∙ ap (λ (s : List ℕ). ((refused 2 e, out), s)) k.1
+    ∙ ap (λ (b : Bool). ((refused 2 e, out), cond b (onto image (packed t.places)) image)) (sym (ne_eqb (number_of e.why) 0 (never_done e.why)))
     ∙ ap (packed_onto image) stepped
     ∙ sym (on_enough image c enough)
 

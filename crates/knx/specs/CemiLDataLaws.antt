@@ -3,7 +3,7 @@ use Rattle.std.specs.Prelude.{ℕ, ◌+◌, ◌≤◌, ◌/◌, ◌%◌, ◌≡�
 use Rattle.std.proofs.Common.{arith, sym, ap, ◌∙◌}
 use Rattle.wire.specs.Clash.{never}
 use Rattle.wire.specs.Told.{Told, done, viewed, Check, ◌⇒◌, verdict}
-use Rattle.wire.specs.ToldLaws.{one_to_one, same, let_pass, let_through, was_accepted}
+use Rattle.wire.specs.ToldLaws.{one_to_one, same, never_done, let_pass, let_through, was_accepted}
 use Rattle.wire.specs.PlaceLaws.{located_pass, located_fall, was_fallen}
 use Rattle.wire.specs.Parts.{part_of}
 use Rattle.wire.specs.declared.parts.View.{View}
@@ -129,17 +129,24 @@ reads c s f p n rest e r first second x y v four =
 
 -- where `LDataFields::data_in` says that the data stands
 view_is : (c : Counting) (rest : List ℕ) (f : LDataFields) → LData.ParseInPromise c rest (Ok f) → (v : Result View Fault) → LData.DataInPromise c f rest v
-    → (v.start ≡ start_of (data_in rest)) × (v.end ≡ (count_by c).end_of (get_or rest 6 0))
-view_is c rest f parsed v p =
-    let cs = byte_checks (count_by c) rest in
-    let at = viewed (start_of (data_in rest)) ((count_by c).end_of (get_or rest 6 0)) in
-    let e : LData.data_by01 (count_by c) f rest ≡ at =
-    LDataLaws.data_read (count_by c) rest f parsed ∙ let_pass cs at (was_accepted cs (done (values_in (count_by c) rest)) (LData.told (Ok f)) refl parsed) in
-    (ap (λ (t : Told). t.start) p ∙ ap (λ (t : Told). t.start) e, ap (λ (t : Told). t.end) p ∙ ap (λ (t : Told). t.end) e)
+    → v ≡ Ok (record { start = start_of (data_in rest); end = (count_by c).end_of (get_or rest 6 0) })
+view_is c rest f parsed v p = go v p
+  where
+    at : Told
+    at = viewed (start_of (data_in rest)) ((count_by c).end_of (get_or rest 6 0))
+
+    e : LData.data_by01 (count_by c) f rest ≡ at
+    e = LDataLaws.data_read (count_by c) rest f parsed ∙ let_pass (byte_checks (count_by c) rest) at (was_accepted (byte_checks (count_by c) rest) (done (values_in (count_by c) rest)) (LData.told (Ok f)) refl parsed)
+
+    go : (v : Result View Fault) → LData.DataInPromise c f rest v → v ≡ Ok (record { start = at.start; end = at.end })
+    go (Ok w) p =
+        ap (λ (a : ℕ). Ok (record { start = a; end = w.end })) (ap (λ (t : Told). t.start) p ∙ ap (λ (t : Told). t.start) e)
+        ∙ ap (λ (b : ℕ). Ok (record { start = at.start; end = b })) (ap (λ (t : Told). t.end) p ∙ ap (λ (t : Told). t.end) e)
+    go (Err f) p = absurd (never_done f.why (ap (λ (t : Told). t.number) p ∙ ap (λ (t : Told). t.number) e))
 
 -- the numbers that are told are those of the records that `parse`, `as_ldata_in` and `data_in` answer
-pub ldata_as : (c : Counting) (s : List ℕ) (r : KnxLData) (f : CEMIFrame) (g : LDataFields) (v : Result View Fault)
-    → CemiLDataInPromise c s r → Cemi.ParsePromise s (Ok f) → Cemi.AsLDataInPromise c f s (Ok g) → LData.DataInPromise c g (service_info s) v
+pub ldata_as : (c : Counting) (s : List ℕ) (r : KnxLData) (f : CEMIFrame) (g : LDataFields) (v : View)
+    → CemiLDataInPromise c s r → Cemi.ParsePromise s (Ok f) → Cemi.AsLDataInPromise c f s (Ok g) → LData.DataInPromise c g (service_info s) (Ok v)
     → told r ≡ record {
       number = 0;
       values = code_of f.message_code ∷ take 7 (values g) ++ apci_numbers (is_data g.tpci) g.apci ++ six_bit_in (is_data g.tpci) (get_or (service_info s) 8 0) ∷ [];
@@ -152,7 +159,8 @@ ldata_as c s r f g v p parsed read view =
     let rest : List ℕ = service_info s in
     let answered : AnswerInPromise c s (Ok g) = as_ldata c s f parsed (Ok g) read in
     let on-rest : LData.ParseInPromise c rest (Ok g) = accepted c s g answered in
-    let at = view_is c rest g on-rest v view in
+    let at = view_is c rest g on-rest (Ok v) view in
+    let it : v ≡ record { start = start_of (data_in rest); end = C.end_of (get_or rest 6 0) } = cc in
     let d : Bool = data_in rest in
     let there : Apci = apci_in C d (get_or rest 7 0) (get_or rest 8 0) in
     let of : ℕ → List ℕ → Bool → Apci → ℕ → ℕ → Told = λ code vs k a start end.
@@ -163,8 +171,8 @@ ldata_as c s r f g v p parsed read view =
     ∙ ap (λ (vs : List ℕ). of (code_in s) vs (is_data g.tpci) g.apci v.start v.end) (LDataLaws.read C rest g on-rest)
     ∙ ap (λ (k : Bool). of (code_in s) (values_in C rest) k g.apci v.start v.end) (LDataLaws.kind_read C rest g on-rest)
     ∙ ap (λ (a : Apci). of (code_in s) (values_in C rest) d a v.start v.end) (LDataLaws.apci_read C rest g on-rest)
-    ∙ ap (λ (start : ℕ). of (code_in s) (values_in C rest) d there start v.end) at.0
-    ∙ ap (of (code_in s) (values_in C rest) d there (start_of d)) at.1)
+    ∙ ap (λ (start : ℕ). of (code_in s) (values_in C rest) d there start v.end) (ap (λ (w : View). w.start) it)
+    ∙ ap (of (code_in s) (values_in C rest) d there (start_of d)) (ap (λ (w : View). w.end) it))
 
 -- ---- no second answer
 

@@ -1,5 +1,5 @@
 -- What the border's readers promise, over the rules of the crates below: a frame, an Hpai, a connect response. Assumes nothing.
-use Rattle.std.specs.Prelude.{ℕ, ◌≡◌, cond, List, [], ◌∷◌, length, eqb, Result}
+use Rattle.std.specs.Prelude.{ℕ, ◌≡◌, List, [], ◌∷◌, length, Result}
 use Rattle.wire.specs.Told.{Told, judged}
 use Rattle.wire.specs.Places.{located}
 use Rattle.wire.specs.Layout.{get}
@@ -17,10 +17,6 @@ use Rattle.wire.specs.declared.refusals.Fault.{Fault}
 abbrev pub told_frame : KnxFrame → Told
 told_frame r = record { number = r.number; values = r.service ∷ r.total ∷ []; start = r.start; end = r.end; offset = r.offset }
 
--- where the body starts, by the frame's number; a refused frame has none
-abbrev pub body_start : ℕ → ℕ
-body_start n = cond (eqb n 0) 6 0
-
 -- service and total length, and the body, which runs from offset 6 to the total length
 abbrev pub frame_in : List ℕ → Told
 frame_in vs = record { number = 0; values = service_in vs ∷ total_in vs ∷ []; start = 6; end = total_in vs; offset = 0 }
@@ -35,37 +31,42 @@ frame_where s = located (Frame.checks (length s) (get fields 0 s)) (Frame.offset
 abbrev pub FramePromise : List ℕ → KnxFrame → Type 0
 FramePromise s r = told_frame r ≡ frame_where s
 
--- the answer of `Hpai::parse` that has these numbers
-abbrev pub hpai_answer : KnxHpai → Result Hpai Fault
-hpai_answer r = record {
-  number = r.number;
-  hpai = record { structure_length = r.structure_length; host_protocol = r.host_protocol; ip_address = r.address; port = r.port };
-  offset = r.offset;
-}
+-- the Hpai that has these numbers
+abbrev pub hpai_in : KnxHpai → Hpai
+hpai_in r = record { structure_length = r.structure_length; host_protocol = r.host_protocol; ip_address = r.address; port = r.port }
 
+abbrev pub told_hpai : KnxHpai → Told
+told_hpai r = record { number = r.number; values = Hpai.values (hpai_in r); start = 0; end = 0; offset = r.offset }
+
+-- what `Hpai::parse` tells
 abbrev pub HpaiPromise : List ℕ → KnxHpai → Type 0
-HpaiPromise s r = Hpai.ParsePromise s (hpai_answer r)
+HpaiPromise s r = told_hpai r ≡ Hpai.parse_where s
 
--- the answer of `ConnectResponse::parse` that has these numbers
-abbrev pub response_answer : KnxConnectResponse → Result ConnectResponse Fault
-response_answer r = record {
-  number = r.number;
-  response = record {
-    channel_id = r.channel;
-    status = r.status;
-    data_endpoint = record { structure_length = r.structure_length; host_protocol = r.host_protocol; ip_address = r.address; port = r.port };
-    crd = r.crd;
-  };
-  offset = r.offset;
+-- the connect response that has these numbers
+abbrev pub response_in : KnxConnectResponse → ConnectResponse
+response_in r = record {
+  channel_id = r.channel;
+  status = r.status;
+  data_endpoint = record { structure_length = r.structure_length; host_protocol = r.host_protocol; ip_address = r.address; port = r.port };
+  crd = r.crd;
 }
 
+abbrev pub told_response : KnxConnectResponse → Told
+told_response r = record { number = r.number; values = ConnectResponse.values (response_in r); start = 0; end = 0; offset = r.offset }
+
+-- what `ConnectResponse::parse` tells, and both arrays have four bytes
 abbrev pub ConnectResponsePromise : List ℕ → KnxConnectResponse → Type 0
-ConnectResponsePromise s r = ConnectResponse.ParsePromise s (response_answer r)
+ConnectResponsePromise s r = (told_response r ≡ ConnectResponse.parse_where s) × ConnectResponse.Arrays (response_in r)
 
 -- in KNX's own form
 abbrev pub ConnectResponseStandardPromise : List ℕ → KnxConnectResponse → Type 0
-ConnectResponseStandardPromise s r = ConnectResponse.ParseStandardPromise s (response_answer r)
+ConnectResponseStandardPromise s r = (told_response r ≡ ConnectResponse.parse_standard_where s) × ConnectResponse.Arrays (response_in r)
 
 -- our own individual address, in the connection response data
 abbrev pub OwnAddressPromise : KnxConnectResponse → ℕ → Type 0
-OwnAddressPromise c r = ConnectResponse.IndividualAddressPromise (response_answer c).response (record { 0 = r })
+OwnAddressPromise c r = ConnectResponse.IndividualAddressPromise (response_in c) (record { 0 = r })
+
+-- ---- the code's part
+
+abbrev pub ResponsePromise : Result ConnectResponse Fault → KnxConnectResponse → Type 0
+ResponsePromise a r = (told_response r ≡ ConnectResponse.told a) × ConnectResponse.Arrays (response_in r)

@@ -145,7 +145,6 @@ fn control_code(counting: Counting, first: u8) -> u8
 fn refused(fault: Fault) -> KnxLData
     ensures { RefusedPromise fault result }
 {
-    let why = fault.why;
     KnxLData {
         offset: fault.at,
         start: 0,
@@ -162,6 +161,6 @@ fn refused(fault: Fault) -> KnxLData
         apci_named: 0,
         control_code: 0,
         six_bit: 0,
-        number: why.number(),
+        number: fault.why.number(),
     }
 }

@@ -42,18 +42,29 @@ pub fn knx_disconnect_response(body: &[u8]) -> KnxStatus
 pub fn knx_disconnect_request_parse(body: &[u8]) -> KnxDisconnectRequest
     ensures { DisconnectRequestPromise body.now result }
 {
-    let answer = DisconnectRequest::parse(body);
-    let request = answer.request;
-    let endpoint = request.control_endpoint;
-    let address = endpoint.ip_address;
-    KnxDisconnectRequest {
-        offset: answer.offset,
-        channel: request.channel_id,
-        structure_length: endpoint.structure_length,
-        host_protocol: endpoint.host_protocol,
-        address,
-        port: endpoint.port,
-        number: answer.number,
+    match DisconnectRequest::parse(body) {
+        Ok(request) => {
+            let endpoint = request.control_endpoint;
+            let address = endpoint.ip_address;
+            KnxDisconnectRequest {
+                offset: 0,
+                channel: request.channel_id,
+                structure_length: endpoint.structure_length,
+                host_protocol: endpoint.host_protocol,
+                address,
+                port: endpoint.port,
+                number: 0,
+            }
+        }
+        Err(fault) => KnxDisconnectRequest {
+            offset: fault.at,
+            channel: 0,
+            structure_length: 0,
+            host_protocol: 0,
+            address: [0; 4],
+            port: 0,
+            number: fault.why.number(),
+        },
     }
 }
 
@@ -75,11 +86,10 @@ fn status_in(body: &[u8]) -> KnxStatus
 fn no_status(fault: Fault) -> KnxStatus
     ensures { NoStatusPromise fault result }
 {
-    let why = fault.why;
     KnxStatus {
         offset: fault.at,
         channel: 0,
         status: 0,
-        number: why.number(),
+        number: fault.why.number(),
     }
 }

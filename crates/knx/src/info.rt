@@ -1,15 +1,14 @@
 // The additional information of a cEMI frame: where it stands, its records, and a frame around it.
 ghost use Rattle.std.specs.Prelude.{◌≡◌};
 ghost use Rattle.additional_info.specs.InfoType.{named_of};
-ghost use Rattle.additional_info.specs.Area.{valued_of, value_of};
 ghost use Rattle.knx.specs.Info as KnxInfo;
 
 use crate::building;
 use crate::building::KnxWritten;
-use additional_info::{AdditionalInfo, AdditionalInfoAnswer, AdditionalInfoType};
+use additional_info::{AdditionalInfo, AdditionalInfoType};
 use cemi::CEMIFrame;
 use constants::CEMIMessageCode;
-use wire::View;
+use wire::{Fault, View};
 
 // A number of 01 and, beside 0, a part of the input; else the offset of the field that decided.
 #[repr(C)]
@@ -50,7 +49,7 @@ pub fn knx_cemi_additional_info(data: &[u8]) -> KnxPart
 {
     match CEMIFrame::parse(data) {
         Ok(frame) => part(frame.additional_info(data)),
-        Err(fault) => part(View::refused(fault)),
+        Err(fault) => part(Err(fault)),
     }
 }
 
@@ -75,14 +74,11 @@ pub fn knx_additional_info_count(area: &[u8]) -> KnxCount
             count,
             number: 0,
         },
-        Err(fault) => {
-            let why = fault.why;
-            KnxCount {
-                offset: fault.at,
-                count: 0,
-                number: why.number(),
-            }
-        }
+        Err(fault) => KnxCount {
+            offset: fault.at,
+            count: 0,
+            number: fault.why.number(),
+        },
     }
 }
 
@@ -111,49 +107,47 @@ pub fn knx_cemi_build(
             let frame = CEMIFrame { message_code };
             building::written(frame.build(additional_info, service_info, out))
         }
-        Err(fault) => {
-            let why = fault.why;
-            building::written(Err(why))
-        }
+        Err(fault) => building::written(Err(fault.why)),
     }
 }
 
-fn part(view: View) -> KnxPart
+fn part(view: Result<View, Fault>) -> KnxPart
     ensures { KnxInfo.PartPromise view result }
 {
-    KnxPart {
-        offset: view.offset,
-        start: view.start,
-        end: view.end,
-        number: view.number,
+    match view {
+        Ok(view) => KnxPart {
+            offset: 0,
+            start: view.start,
+            end: view.end,
+            number: 0,
+        },
+        Err(fault) => KnxPart {
+            offset: fault.at,
+            start: 0,
+            end: 0,
+            number: fault.why.number(),
+        },
     }
 }
 
 // What was answered for a record, as numbers.
-fn record(answer: AdditionalInfoAnswer) -> KnxAdditionalInfo
+fn record(answer: Result<Option<AdditionalInfo>, Fault>) -> KnxAdditionalInfo
     ensures { KnxInfo.RecordPromise answer result }
 {
     match answer {
-        AdditionalInfoAnswer::Record(info) => {
-            let t = info.info_type;
-            let timestamp = info.timestamp;
-            KnxAdditionalInfo {
-                offset: 0,
-                start: info.start,
-                end: info.end,
-                timestamp: value(timestamp),
-                found: 1,
-                named: named(t),
-                info_type: t.to_u8(),
-                timestamped: valued(timestamp),
-                number: 0,
-            }
-        }
-        AdditionalInfoAnswer::None => none(0, 0),
-        AdditionalInfoAnswer::Refused(fault) => {
-            let why = fault.why;
-            none(why.number(), fault.at)
-        }
+        Ok(Some(info)) => KnxAdditionalInfo {
+            offset: 0,
+            start: info.start,
+            end: info.end,
+            timestamp: info.timestamp.unwrap_or(0),
+            found: 1,
+            named: named(info.info_type),
+            info_type: info.info_type.to_u8(),
+            timestamped: u8::from(info.timestamp.is_some()),
+            number: 0,
+        },
+        Ok(None) => none(0, 0),
+        Err(fault) => none(fault.why.number(), fault.at),
     }
 }
 
@@ -176,32 +170,5 @@ fn none(number: u8, offset: usize) -> KnxAdditionalInfo
 fn named(t: AdditionalInfoType) -> u8
     ensures { result ≡ named_of t }
 {
-    match t {
-        AdditionalInfoType::PlMediumInfo => 1,
-        AdditionalInfoType::RfMediumInfo => 1,
-        AdditionalInfoType::BusmonitorErrorFlags => 1,
-        AdditionalInfoType::RelativeTimestamp => 1,
-        AdditionalInfoType::TimeDelay => 1,
-        AdditionalInfoType::ExtendedRelativeTimestamp => 1,
-        AdditionalInfoType::BiBatInfo => 1,
-        AdditionalInfoType::Unknown(_) => 0,
-    }
-}
-
-fn valued(timestamp: Option<u32>) -> u8
-    ensures { result ≡ valued_of timestamp }
-{
-    match timestamp {
-        Some(_) => 1,
-        None => 0,
-    }
-}
-
-fn value(timestamp: Option<u32>) -> u32
-    ensures { result ≡ value_of timestamp }
-{
-    match timestamp {
-        Some(n) => n,
-        None => 0,
-    }
+    u8::from(!matches!(t, AdditionalInfoType::Unknown(_)))
 }

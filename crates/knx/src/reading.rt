@@ -1,9 +1,10 @@
 // Reading: a frame, an Hpai, a connect response, and our own address in it.
-ghost use Rattle.std.specs.Prelude.{◌≡◌};
-ghost use Rattle.knx.specs.Reading.{body_start, FramePromise, HpaiPromise, ConnectResponsePromise, ConnectResponseStandardPromise, response_answer, OwnAddressPromise};
+ghost use Rattle.knx.specs.Reading.{FramePromise, HpaiPromise, ConnectResponsePromise, ConnectResponseStandardPromise, ResponsePromise, OwnAddressPromise};
 
-use connect::{ConnectResponse, ConnectResponseAnswer};
+use connect::ConnectResponse;
+use header::KnxnetIpHeader;
 use hpai::Hpai;
+use wire::Fault;
 
 // A number of 01 and, beside 0, where the body stands, the service and the total length; else the offset of the field that decided.
 #[repr(C)]
@@ -47,37 +48,49 @@ pub struct KnxConnectResponse {
 pub fn knx_frame_parse(data: &[u8]) -> KnxFrame
     ensures { FramePromise «data».now result }
 {
-    let judged = frame::judge(data);
-    KnxFrame {
-        offset: judged.offset,
-        start: body_start(judged.number),
-        end: judged.total as usize,
-        service: judged.service,
-        total: judged.total,
-        number: judged.number,
+    match frame::judge(data) {
+        Ok(judged) => KnxFrame {
+            offset: 0,
+            start: KnxnetIpHeader::SIZE,
+            end: judged.total as usize,
+            service: judged.service,
+            total: judged.total,
+            number: 0,
+        },
+        Err(fault) => KnxFrame {
+            offset: fault.at,
+            start: 0,
+            end: 0,
+            service: 0,
+            total: 0,
+            number: fault.why.number(),
+        },
     }
-}
-
-// The body starts behind the header; a refused frame has none.
-fn body_start(number: u8) -> usize
-    ensures { result ≡ body_start number }
-{
-    if number == 0 { 6 } else { 0 }
 }
 
 pub fn knx_hpai_parse(data: &[u8]) -> KnxHpai
     ensures { HpaiPromise «data».now result }
 {
-    let answer = Hpai::parse(data);
-    let hpai = answer.hpai;
-    let address = hpai.ip_address;
-    KnxHpai {
-        offset: answer.offset,
-        structure_length: hpai.structure_length,
-        host_protocol: hpai.host_protocol,
-        address,
-        port: hpai.port,
-        number: answer.number,
+    match Hpai::parse(data) {
+        Ok(hpai) => {
+            let address = hpai.ip_address;
+            KnxHpai {
+                offset: 0,
+                structure_length: hpai.structure_length,
+                host_protocol: hpai.host_protocol,
+                address,
+                port: hpai.port,
+                number: 0,
+            }
+        }
+        Err(fault) => KnxHpai {
+            offset: fault.at,
+            structure_length: 0,
+            host_protocol: 0,
+            address: [0; 4],
+            port: 0, // no Hpai
+            number: fault.why.number(),
+        },
     }
 }
 
@@ -102,22 +115,36 @@ pub fn knx_own_address(response: KnxConnectResponse) -> u16
     wire::word_at(&crd, 2)
 }
 
-fn response_as(answer: ConnectResponseAnswer) -> KnxConnectResponse
-    ensures { response_answer result ≡ answer }
+fn response_as(answer: Result<ConnectResponse, Fault>) -> KnxConnectResponse
+    ensures { ResponsePromise answer result }
 {
-    let response = answer.response;
-    let endpoint = response.data_endpoint;
-    let address = endpoint.ip_address;
-    let crd = response.crd;
-    KnxConnectResponse {
-        offset: answer.offset,
-        channel: response.channel_id,
-        status: response.status,
-        structure_length: endpoint.structure_length,
-        host_protocol: endpoint.host_protocol,
-        address,
-        port: endpoint.port,
-        crd,
-        number: answer.number,
+    match answer {
+        Ok(response) => {
+            let endpoint = response.data_endpoint;
+            let address = endpoint.ip_address;
+            let crd = response.crd;
+            KnxConnectResponse {
+                offset: 0,
+                channel: response.channel_id,
+                status: response.status,
+                structure_length: endpoint.structure_length,
+                host_protocol: endpoint.host_protocol,
+                address,
+                port: endpoint.port,
+                crd,
+                number: 0,
+            }
+        }
+        Err(fault) => KnxConnectResponse {
+            offset: fault.at,
+            channel: 0,
+            status: 0,
+            structure_length: 0,
+            host_protocol: 0,
+            address: [0; 4],
+            port: 0,
+            crd: [0; 4],
+            number: fault.why.number(),
+        },
     }
 }

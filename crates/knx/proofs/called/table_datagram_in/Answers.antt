@@ -1,5 +1,7 @@
 -- `table_datagram_in` keeps its contract. Assumes nothing.
-use Rattle.std.proofs.Common.{sym, ◌∙◌}
+use Rattle.std.proofs.Common.{ap, sym, ◌∙◌}
+use Rattle.wire.specs.Told.{refused}
+use Rattle.wire.specs.declared.refusals.Fault.{Fault}
 use Rattle.tunnel_datagram.specs.HearingLaws.{heard_in_is}
 use Rattle.tunnel_model.specs.Calls.{DatagramIn}
 use Rattle.tunnel_table.specs.TableLaws.{step-heard}
@@ -9,19 +11,19 @@ use Rattle.knx.proofs.called.table_datagram_in.Goals as goal
 pub returns-then-image-lt-SIZE : goal.returns-then-image-lt-SIZE
 returns-then-image-lt-SIZE c =
     let a = c.args in
-    small_call a.image.now (DatagramIn a.form a.bytes.now a.out.now) _ c.if-image-lt-SIZE.true c.refused.ensures
+    small_call a.image.now (DatagramIn a.form a.bytes.now a.out.now) _ c.if-image-lt-SIZE.true (c.refused.ensures ∙ ap (λ (e : Fault). refused 2 e) c.from.ensures)
 
-pub returns-in-Refused : goal.returns-in-Refused
-returns-in-Refused c =
+pub returns-in-Err : goal.returns-in-Err
+returns-in-Err c =
     let a = c.args in
-    let e = c.in-Refused.fault in
-    let heard = sym (heard_in_is a.form a.bytes.now c.hear_in-heard.result c.hear_in-heard.ensures) ∙ c.in-Refused.is in
-    unheard_call a.form a.image.now a.bytes.now a.out.now e _ c.if-image-lt-SIZE.false heard c.refused_at.ensures
+    let e = c.in-Err.fault in
+    let heard = sym (heard_in_is a.form a.bytes.now c.hear_in-heard.result c.hear_in-heard.ensures) ∙ c.in-Err.is in
+    unheard_call a.form a.image.now a.bytes.now a.out.now e _ c.if-image-lt-SIZE.false heard c.refused-in-Err.ensures
 
 pub returns : goal.returns
 returns c =
     let a = c.args in
     let h = c.hear_in-heard.result in
     let t = c.unpack.result in
-    let stepped = c.heard_in-answer.ensures ∙ step-heard a.form t.places a.bytes.now a.out.now h (sym (heard_in_is a.form a.bytes.now h c.hear_in-heard.ensures)) in
-    packed_call a.image.now (DatagramIn a.form a.bytes.now a.out.now) t c.heard_in-answer.result _ _ _ c.if-image-lt-SIZE.false c.unpack.ensures stepped c.keep.ensures c.called.ensures
+    let stepped = c.heard_in.ensures ∙ step-heard a.form t.places a.bytes.now a.out.now h (sym (heard_in_is a.form a.bytes.now h c.hear_in-heard.ensures)) in
+    packed_call a.image.now (DatagramIn a.form a.bytes.now a.out.now) t c.heard_in.result _ _ _ c.if-image-lt-SIZE.false c.unpack.ensures stepped c.keep.ensures

@@ -2,8 +2,8 @@
 use Rattle.knx.specs.CemiLDataLaws.{as_ldata, no_cemi}
 use Rattle.knx.proofs.cemi_ldata.answer_in.Goals as goal
 
-pub returns-in-Frame : goal.returns-in-Frame
-returns-in-Frame c = as_ldata c.args.counting c.args.«data».now c.in-Frame.frame c.in-Frame.ensures c.as_ldata_in.result c.as_ldata_in.ensures
+pub returns-in-Ok : goal.returns-in-Ok
+returns-in-Ok c = as_ldata c.args.counting c.args.«data».now c.in-Ok.frame c.in-Ok.ensures c.as_ldata_in.result c.as_ldata_in.ensures
 
-pub returns-in-Refused : goal.returns-in-Refused
-returns-in-Refused c = no_cemi c.args.counting c.args.«data».now c.in-Refused.fault c.in-Refused.ensures
+pub returns-in-Err : goal.returns-in-Err
+returns-in-Err c = no_cemi c.args.counting c.args.«data».now c.in-Err.fault c.in-Err.ensures
