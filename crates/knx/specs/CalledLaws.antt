@@ -1,5 +1,5 @@
 -- The border's calls on the table: one law for the five of them, no second answer, and a refusal changes nothing. Assumes nothing.
-use Rattle.std.specs.Prelude.{ℕ, ◌<◌, ◌≤◌, ◌≡◌, refl, Bool, cond, List, [], ◌∷◌, length, get_or, drop, eqb, Result, Ok, Err}
+use Rattle.std.specs.Prelude.{ℕ, ◌<◌, ◌≤◌, ◌≡◌, refl, Bool, cond, List, [], ◌∷◌, length, get_or, drop, Result, Ok, Err}
 use Rattle.std.proofs.Common.{arith, sym, ap, subst, ◌∙◌, le-ltb, ne_eqb}
 use Rattle.wire.specs.Refusals.{number_of}
 use Rattle.wire.specs.Told.{Told, refused, nowhere}
