@@ -1,5 +1,5 @@
 -- "KIP 1", "1 0421 11", "2 refused 2", "records 2": the lines of an inspection, each with its line feed. Assumes nothing.
-use Rattle.std.specs.Prelude.{ℕ, ◌≡◌, Bool, cond, List, [], ◌∷◌, ◌++◌, length, get_or, eqb, Result}
+use Rattle.std.specs.Prelude.{ℕ, Bool, cond, List, [], ◌∷◌, ◌++◌, get_or, eqb, Result}
 use Rattle.wire.specs.Told.{Told}
 use Rattle.wire.specs.Writing.{WritePromise}
 use Rattle.digits.specs.Digits.{decimal, hex4}
@@ -54,9 +54,6 @@ cut_text = 99 ∷ 117 ∷ 116 ∷ 10 ∷ []
 
 abbrev pub cut_front : Bool → List ℕ
 cut_front cut = cond cut cut_text []
-
-abbrev pub CutSizePromise : Bool → ℕ → Type 0
-CutSizePromise cut r = r ≡ length (cut_front cut)
 
 abbrev pub records_text : List ℕ
 records_text = 114 ∷ 101 ∷ 99 ∷ 111 ∷ 114 ∷ 100 ∷ 115 ∷ 32 ∷ []

@@ -1,15 +1,14 @@
 -- A line is its parts, each copied right behind what stands; no second answer. Assumes nothing.
-use Rattle.std.specs.Prelude.{ℕ, ◌+◌, ◌<◌, ◌≤◌, ◌≡◌, refl, List, [], ◌∷◌, ◌++◌, length, eqb, Bool, true, false, Result, Ok, Err}
+use Rattle.std.specs.Prelude.{ℕ, ◌+◌, ◌<◌, ◌≤◌, ◌≡◌, List, [], ◌∷◌, ◌++◌, length, Bool, true, false, Result, Ok, Err}
 use Rattle.std.proofs.Common.{arith, sym, ap, ◌∙◌, length-append, lt-ltb, le-ltb}
 use Rattle.wire.specs.Told.{done}
 use Rattle.wire.specs.Writing.{onto, WritePromise}
 use Rattle.wire.specs.WritingLaws.{write_one}
 use Rattle.wire.specs.Layout.{copied}
 use Rattle.wire.specs.LayoutLaws.{copied_front, copied_behind, copied_on, length_three}
-use Rattle.wire.specs.Parts.{part_of}
 use Rattle.wire.specs.declared.refusals.Refusal.TheVariants.{BufferTooSmall}
 use Rattle.digits.specs.Digits.{decimal}
-use Rattle.inspection.specs.Lines.{heading_of, HeadingPromise, closing, numbered, service_text, refused_text, line_of, LinePromise, cut_text, cut_front, ending_of, EndingPromise}
+use Rattle.inspection.specs.Lines.{heading_of, HeadingPromise, closing, line_of, LinePromise, cut_front, ending_of, EndingPromise}
 use Rattle.frame.specs.declared.judging.Judged.{Judged}
 use Rattle.wire.specs.declared.refusals.Refusal.{Refusal}
 use Rattle.wire.specs.declared.refusals.Fault.{Fault}
@@ -43,20 +42,9 @@ closed text out one two after n at to_number to_end a b fits p q r =
     q ∙ ap (λ (l : List ℕ). copied (decimal n) l to_number) p ∙ copied_on text (decimal n) out at to_number (sym a) (omega arith) in
     r ∙ ap (λ (l : List ℕ). copied (10 ∷ []) l to_end) second ∙ copied_on (text ++ decimal n) (10 ∷ []) out at to_end (omega (arith, length-append text (decimal n))) (omega arith)
 
--- the line `cut`, or none of it
-pub cut_part : (cut : Bool) → part_of cut_text 0 (length (cut_front cut)) ≡ cut_front cut
-cut_part true = refl
-cut_part false = refl
-
 pub cut_most : (cut : Bool) → length (cut_front cut) ≤ 4
 cut_most true = omega arith
 cut_most false = omega arith
-
-pub framed-line : (n : ℕ) (j : Result Judged Fault) → eqb j.number 0 ≡ true → numbered n (service_text j.service) j.total ≡ line_of n j
-framed-line n j e = rw e
-
-pub refused-line : (n : ℕ) (j : Result Judged Fault) → eqb j.number 0 ≡ false → numbered n refused_text j.number ≡ line_of n j
-refused-line n j e = rw e
 
 pub heading_one : (kip : Bool) (out : List ℕ) (r q : Result ℕ Refusal) (after later : List ℕ) → HeadingPromise kip out r after → HeadingPromise kip out q later → (r ≡ q) × (after ≡ later)
 heading_one kip = write_one (heading_of kip)

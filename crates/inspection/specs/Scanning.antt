@@ -1,5 +1,5 @@
 -- What a scan of a buffer prints and where it stops: record after record, while a whole one is there, it can be counted, and its line fits. Assumes nothing.
-use Rattle.std.specs.Prelude.{ℕ, zero, suc, ◌+◌, ◌≡◌, cond, List, [], ◌∷◌, length, drop, leb, ltb, Result}
+use Rattle.std.specs.Prelude.{ℕ, zero, suc, ◌+◌, ◌≡◌, cond, List, [], ◌∷◌, length, drop, leb, ltb, Result, Ok, Err}
 use Rattle.wire.specs.Told.{done, judged, ◌⇒◌}
 use Rattle.wire.specs.Layout.{word_at, copied}
 use Rattle.wire.specs.Writing as Writing
@@ -49,6 +49,15 @@ scan_of (suc k) s at used n out =
     (stopped at used n out Full))
     (stopped at used n out Last))
     (stopped at used n out Short)
+
+-- what is still to be scanned behind a turn: the records from where the scan is then, or none where it stopped
+abbrev pub goes_on : ℕ → List ℕ → Spot → Result Spot Stop → List ℕ → Scan
+goes_on k s spot (Ok next) after = scan_of k s next.at next.used next.n after
+goes_on k s spot (Err stop) after = stopped spot.at spot.used spot.n after stop
+
+-- a scan of one turn more is this turn, and then the others
+abbrev pub HandOnPromise : List ℕ → List ℕ → Spot → Result Spot Stop → List ℕ → Type 0
+HandOnPromise s out spot r after = (k : ℕ) → scan_of (suc k) s spot.at spot.used spot.n out ≡ goes_on k s spot r after
 
 -- what the code's answer and the output afterwards say
 abbrev pub scanned : Scanned → List ℕ → Scan

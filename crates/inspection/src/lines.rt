@@ -2,32 +2,33 @@
 ghost use Rattle.std.specs.Prelude.{◌≡◌, ◌+◌, ◌≤◌, length};
 ghost use Rattle.wire.specs.Layout.{CopyPromise};
 ghost use Rattle.digits.specs.Digits.{decimal};
-ghost use Rattle.inspection.specs.Lines.{HeadingPromise, closing, LinePromise, EndingPromise, NumberedPromise, CutSizePromise};
+ghost use Rattle.inspection.specs.Lines.{HeadingPromise, closing, LinePromise, EndingPromise, NumberedPromise, cut_front};
 
 use frame::Judged;
-use wire::Refusal;
+use wire::{Fault, Refusal};
 
 // The first line: whether the bytes start as a capture does.
 pub fn heading(kip: bool, out: &mut [u8]) -> Result<usize, Refusal>
     ensures { HeadingPromise kip out.old result out.new }
 {
     if kip {
-        return wire::write(b"KIP 1\n", out);
+        wire::write(b"KIP 1\n", out)
+    } else {
+        wire::write(b"not KIP 1\n", out)
     }
-    wire::write(b"not KIP 1\n", out)
 }
 
 // The record's number in the capture, then service and total length, or the refusal.
-pub fn line(n: u64, judged: Judged, out: &mut [u8]) -> Result<usize, Refusal>
+pub fn line(n: u64, judged: Result<Judged, Fault>, out: &mut [u8]) -> Result<usize, Refusal>
     ensures { LinePromise n judged out.old result out.new }
 {
-    if judged.number == 0 {
-        let service = digits::hex4(judged.service);
-        let text = [b' ', service[0], service[1], service[2], service[3], b' '];
-        return numbered(n, &text, judged.total as u64, out);
+    match judged {
+        Ok(judged) => {
+            let [a, b, c, d] = digits::hex4(judged.service);
+            numbered(n, &[b' ', a, b, c, d, b' '], judged.total as u64, out)
+        }
+        Err(fault) => numbered(n, b" refused ", fault.why.number() as u64, out),
     }
-    let text = [b' ', b'r', b'e', b'f', b'u', b's', b'e', b'd', b' '];
-    numbered(n, &text, judged.number as u64, out)
 }
 
 // A number, then what closes the line.
@@ -49,22 +50,21 @@ fn numbered(n: u64, text: &[u8], last: u64, out: &mut [u8]) -> Result<usize, Ref
 pub fn ending(n: u64, cut: bool, out: &mut [u8]) -> Result<usize, Refusal>
     ensures { EndingPromise n cut out.old result out.new }
 {
-    let front = [b'c', b'u', b't', b'\n'];
-    let text = [b'r', b'e', b'c', b'o', b'r', b'd', b's', b' '];
-    let to_text = cut_size(cut);
-    let to_end = to_text + 8 + digits::places(n);
+    let front = cut_line(cut);
+    let text = b"records ";
+    let to_end = front.len() + text.len() + digits::places(n);
     if out.len() < to_end + 1 {
         return Err(Refusal::BufferTooSmall);
     }
-    wire::copy_at(wire::part(&front, 0, to_text), out, 0);
-    close(&text, n, out, to_text, to_end);
+    wire::copy_at(front, out, 0);
+    close(text, n, out, front.len(), to_end);
     Ok(to_end + 1)
 }
 
-fn cut_size(cut: bool) -> usize
-    ensures { CutSizePromise cut result }
+fn cut_line(cut: bool) -> &'static [u8]
+    ensures { result.now ≡ cut_front cut }
 {
-    if cut { 4 } else { 0 }
+    if cut { b"cut\n" } else { b"" }
 }
 
 // A text, a number and a line feed, from a place on.
@@ -73,9 +73,8 @@ fn close(text: &[u8], n: u64, out: &mut [u8], at: usize, feed: usize)
     requires feed_in_bounds { feed + 1 ≤ length out.old }
     ensures { CopyPromise (closing text.now n) out.old at out.new }
 {
-    let end = [b'\n'];
     let to_number = at + text.len();
     wire::copy_at(text, out, at);
     digits::put_digits(n, out, to_number, feed);
-    wire::copy_at(&end, out, feed);
+    wire::copy_at(b"\n", out, feed);
 }
