@@ -1,13 +1,12 @@
 -- A scan, one turn at a time, as the code makes it; no second answer. Assumes nothing.
-use Rattle.std.specs.Prelude.{ℕ, zero, suc, ◌+◌, ◌-◌, ◌≤◌, ◌<◌, ◌≡◌, refl, Bool, true, false, cond, List, [], ◌∷◌, ◌++◌, length, get_or, take, drop, ltb, Result, Ok, Err, Option, Some, None}
-use Rattle.std.proofs.Common.{arith, sym, ap, ◌∙◌, append_assoc, append-nil, length-drop, take-append-drop, drop_of_length-le, drop-drop, le-leb, le-ltb, lt-ltb, ltb-true, ltb-false}
+use Rattle.std.specs.Prelude.{ℕ, zero, suc, ◌+◌, ◌≤◌, ◌<◌, ◌≡◌, refl, Bool, true, false, cond, List, [], ◌∷◌, length, get_or, drop, ltb, Result, Ok, Err, Option, Some, None}
+use Rattle.std.proofs.Common.{arith, sym, ap, ◌∙◌, le-leb, le-ltb, lt-ltb, ltb-true, ltb-false}
 use Rattle.std.proofs.lemmas.Bool.{lt-leb}
 use Rattle.wire.specs.Clash.{never}
-use Rattle.wire.specs.Told.{Told, done, refused, nowhere, Check, ◌⇒◌, verdict, judged, lent}
-use Rattle.wire.specs.ToldLaws.{same, same_test, holds, let_through, was_accepted, was_refused}
+use Rattle.wire.specs.Told.{Told, done, refused, nowhere, Check, ◌⇒◌, verdict, judged}
+use Rattle.wire.specs.ToldLaws.{same, holds, let_through, was_accepted, was_refused}
 use Rattle.wire.specs.Parts.{part_of}
 use Rattle.wire.specs.Layout.{word_at, copied}
-use Rattle.wire.specs.LayoutLaws.{copied_is}
 use Rattle.wire.specs.Writing.{onto, WritePromise}
 use Rattle.wire.specs.Writing as Writing
 use Rattle.wire.specs.declared.refusals.Refusal.{Refusal}
@@ -48,41 +47,6 @@ pub hands : (k : ℕ) (s : List ℕ) (at used n : ℕ) (out : List ℕ) → whol
     → scan_of (suc k) s at used n out ≡ scan_of k s (at + 2 + word_at s at) (used + length (line_at s at n)) (n + 1) (copied (line_at s at n) out used)
 unfolding scan_of
 hands k s at used n out e m f = rw (e, lt-ltb n most m, le-leb (used + length (line_at s at n)) (length out) f)
-
--- ---- a line behind what stands
-
-pub put-behind : (w out after : List ℕ) (at : ℕ) (r : Result ℕ Refusal) → at ≤ length out → WritePromise w (drop at out) r after
-    → (Writing.told r ≡ judged (ltb (length out) (at + length w) ⇒ BufferTooSmall ∷ []) (done (length w ∷ []))) × (take at out ++ after ≡ copied w out at)
-put-behind w out after at r h p = (p.0 ∙ ap (λ (b : Bool). judged (b ⇒ BufferTooSmall ∷ []) (done (length w ∷ []))) same, go (ltb (length out) (at + length w)) refl)
-  where
-    rest : List ℕ
-    rest = drop at out
-
-    same : ltb (length (drop at out)) (length w) ≡ ltb (length out) (at + length w)
-    same = same_test (length (drop at out)) (length w) (length out) (at + length w) (λ x. omega (arith, length-drop at out)) (λ x. omega (arith, length-drop at out))
-
-    afterwards : (b : Bool) → ltb (length out) (at + length w) ≡ b → after ≡ lent (verdict (b ⇒ BufferTooSmall ∷ [])) (drop at out) (onto (drop at out) w)
-    afterwards b e = p.1 ∙ ap (λ (c : Bool). lent (verdict (c ⇒ BufferTooSmall ∷ [])) (drop at out) (onto (drop at out) w)) (same ∙ e)
-
-    go : (b : Bool) → ltb (length out) (at + length w) ≡ b → take at out ++ after ≡ copied w out at
-    go true e =
-        ap (λ (l : List ℕ). take at out ++ l) (afterwards true e) ∙ take-append-drop at out
-        ∙ sym (ap (λ (c : Bool). cond c (take at out ++ w ++ drop (at + length w) out) out) (lt-leb (at + length w) (length out) (ltb-true (length out) (at + length w) e)))
-    go false e =
-        ap (λ (l : List ℕ). take at out ++ l) (afterwards false e ∙ ap (λ (l : List ℕ). w ++ l) (drop-drop (length w) at out))
-        ∙ sym (append_assoc (take at out) w (drop (at + length w) out))
-        ∙ sym (copied_is w out at (at + length w) refl (ltb-false (length out) (at + length w) e))
-
--- nothing lies behind a part that runs to the end
-pub to_the_end : (out after : List ℕ) (at : ℕ) → at ≤ length out → take at out ++ (after ++ drop (length out - at) (drop at out)) ≡ take at out ++ after
-to_the_end out after at h =
-    ap (λ (l : List ℕ). take at out ++ (after ++ l)) (drop_of_length-le (drop at out) {i = length out - at} (omega (arith, length-drop at out)))
-    ∙ ap (λ (l : List ℕ). take at out ++ l) (append-nil after)
-
-pub no_place : (w out : List ℕ) (at : ℕ) → length out < at
-    → (refused 1 (nowhere BufferTooSmall) ≡ judged (ltb (length out) (at + length w) ⇒ BufferTooSmall ∷ []) (done (length w ∷ []))) × (out ≡ copied w out at)
-no_place w out at h =
-    (simp (lt-ltb (length out) (at + length w) (omega arith)), simp (lt-leb (at + length w) (length out) (omega arith)))
 
 -- ---- one turn of the code
 

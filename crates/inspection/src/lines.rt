@@ -32,6 +32,7 @@ pub fn line(n: u64, judged: Result<Judged, Fault>, out: &mut [u8]) -> Result<usi
 }
 
 // A number, then what closes the line.
+#[tactic(auto, using(digits::specs::DigitLaws::places_most))]
 fn numbered(n: u64, text: &[u8], last: u64, out: &mut [u8]) -> Result<usize, Refusal>
     requires { length text.now ≤ 9 }
     ensures { NumberedPromise n text.now last out.old result out.new }
@@ -47,6 +48,7 @@ fn numbered(n: u64, text: &[u8], last: u64, out: &mut [u8]) -> Result<usize, Ref
 }
 
 // The last lines: `cut` where a record is unfinished, and how many whole ones there were.
+#[tactic(auto, using(digits::specs::DigitLaws::places_most))]
 pub fn ending(n: u64, cut: bool, out: &mut [u8]) -> Result<usize, Refusal>
     ensures { EndingPromise n cut out.old result out.new }
 {

@@ -1,16 +1,9 @@
 -- `ending` keeps its contract. Assumes nothing.
 use Rattle.std.proofs.Common.{ℕ, ◌+◌, arith, ap, ◌∙◌, List, length}
 use Rattle.wire.specs.Layout.{copied}
-use Rattle.digits.specs.DigitLaws.{places_most}
 use Rattle.inspection.specs.Lines.{cut_front, records_text}
 use Rattle.inspection.specs.LinesLaws.{no_room, laid}
 use Rattle.inspection.proofs.lines.ending.Goals as goal
-
-pub overflow_add-to_end-2 : goal.overflow_add-to_end-2
-overflow_add-to_end-2 c = omega (arith, c.places.ensures, places_most c.args.n)
-
-pub overflow_add-to_end-3 : goal.overflow_add-to_end-3
-overflow_add-to_end-3 c = omega (arith, c.places.ensures, places_most c.args.n)
 
 pub returns-then-out-to_end : goal.returns-then-out-to_end
 returns-then-out-to_end c =

@@ -1,18 +1,9 @@
 -- `numbered` keeps its contract. Assumes nothing.
 use Rattle.std.proofs.Common.{◌+◌, arith, length}
 use Rattle.digits.specs.Digits.{decimal}
-use Rattle.digits.specs.DigitLaws.{places_most, decimal_stored}
+use Rattle.digits.specs.DigitLaws.{decimal_stored}
 use Rattle.inspection.specs.LinesLaws.{no_room, laid}
 use Rattle.inspection.proofs.lines.numbered.Goals as goal
-
-pub overflow_add-to_end : goal.overflow_add-to_end
-overflow_add-to_end c = omega (arith, c.places-to_text.ensures, places_most c.args.n)
-
-pub overflow_add-to_end-2 : goal.overflow_add-to_end-2
-overflow_add-to_end-2 c = omega (arith, c.places-to_text.ensures, places_most c.args.n, c.places.ensures, places_most c.args.last)
-
-pub overflow_add-to_end-3 : goal.overflow_add-to_end-3
-overflow_add-to_end-3 c = omega (arith, c.places-to_text.ensures, places_most c.args.n, c.places.ensures, places_most c.args.last)
 
 pub returns-then-out-to_end : goal.returns-then-out-to_end
 returns-then-out-to_end c =
