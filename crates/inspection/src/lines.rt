@@ -31,7 +31,7 @@ pub fn line(n: u64, judged: Result<Judged, Fault>, out: &mut [u8]) -> Result<usi
     }
 }
 
-// A number, then what closes the line.
+// A number, then what closes the line. The digits are stored where they stand: no contract says which bytes `write!` leaves in a cursor, and pieces that are made first and then copied take the inspection of small records a quarter longer.
 #[tactic(auto, using(digits::specs::DigitLaws::places_most))]
 fn numbered(n: u64, text: &[u8], last: u64, out: &mut [u8]) -> Result<usize, Refusal>
     requires { length text.now ≤ 9 }
