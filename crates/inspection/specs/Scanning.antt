@@ -1,12 +1,9 @@
 -- What a scan of a buffer prints and where it stops: record after record, while a whole one is there, it can be counted, and its line fits. Assumes nothing.
-use Rattle.std.specs.Prelude.{ℕ, zero, suc, ◌+◌, ◌≡◌, cond, List, [], ◌∷◌, length, drop, leb, ltb, Result, Ok, Err}
-use Rattle.wire.specs.Told.{done, judged, ◌⇒◌}
+use Rattle.std.specs.Prelude.{ℕ, zero, suc, ◌+◌, ◌≡◌, cond, List, length, drop, leb, ltb, Result, Ok, Err}
 use Rattle.wire.specs.Layout.{word_at, copied}
-use Rattle.wire.specs.Writing as Writing
-use Rattle.wire.specs.declared.refusals.Refusal.TheVariants.{BufferTooSmall}
 use Rattle.kip.specs.Capture.{whole, first_in}
 use Rattle.frame.specs.Judging.{judge_by01}
-use Rattle.inspection.specs.Lines.{line_told, line_of}
+use Rattle.inspection.specs.Lines.{line_told, line_of, PutPromise}
 use Rattle.frame.specs.declared.judging.Judged.{Judged}
 use Rattle.inspection.specs.declared.scanning.Spot.{Spot}
 use Rattle.inspection.specs.declared.scanning.Scanned.{Scanned}
@@ -15,10 +12,9 @@ use Rattle.inspection.specs.declared.scanning.Stop.TheVariants.{Short, Full, Las
 use Rattle.wire.specs.declared.refusals.Refusal.{Refusal}
 use Rattle.wire.specs.declared.refusals.Fault.{Fault}
 
--- written from a place on, or not at all where it does not fit (1)
+-- a record's line, from a place on
 abbrev pub PutLinePromise : ℕ → Result Judged Fault → ℕ → List ℕ → Result ℕ Refusal → List ℕ → Type 0
-PutLinePromise n j at out r after =
-    (Writing.told r ≡ judged (ltb (length out) (at + length (line_of n j)) ⇒ BufferTooSmall ∷ []) (done (length (line_of n j) ∷ []))) × (after ≡ copied (line_of n j) out at)
+PutLinePromise n j at out r after = PutPromise (line_of n j) at out r after
 
 -- where a scan is: how far it handed on, how much of the output is used, how many records there were, the output, and why it stopped
 pub record Scan : Type 0 where

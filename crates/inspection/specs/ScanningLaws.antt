@@ -1,19 +1,19 @@
 -- A scan, one turn at a time, as the code makes it; no second answer. Assumes nothing.
-use Rattle.std.specs.Prelude.{ℕ, zero, suc, ◌+◌, ◌≤◌, ◌<◌, ◌≡◌, refl, Bool, true, false, cond, List, [], ◌∷◌, length, get_or, drop, ltb, Result, Ok, Err, Option, Some, None}
-use Rattle.std.proofs.Common.{arith, sym, ap, ◌∙◌, le-leb, le-ltb, lt-ltb, ltb-true, ltb-false}
+use Rattle.std.specs.Prelude.{ℕ, zero, suc, ◌+◌, ◌≤◌, ◌<◌, ◌≡◌, refl, Bool, true, false, cond, List, length, drop, Result, Ok, Err, Option, Some, None}
+use Rattle.std.proofs.Common.{arith, sym, ap, ◌∙◌, le-leb, le-ltb, lt-ltb}
 use Rattle.std.proofs.lemmas.Bool.{lt-leb}
 use Rattle.wire.specs.Clash.{never}
-use Rattle.wire.specs.Told.{Told, done, refused, nowhere, Check, ◌⇒◌, verdict, judged}
-use Rattle.wire.specs.ToldLaws.{same, holds, let_through, was_accepted, was_refused}
+use Rattle.wire.specs.Told.{refused}
+use Rattle.wire.specs.ToldLaws.{same}
 use Rattle.wire.specs.Parts.{part_of}
 use Rattle.wire.specs.Layout.{word_at, copied}
 use Rattle.wire.specs.Writing.{onto, WritePromise}
 use Rattle.wire.specs.Writing as Writing
 use Rattle.wire.specs.declared.refusals.Refusal.{Refusal}
-use Rattle.wire.specs.declared.refusals.Refusal.TheVariants.{BufferTooSmall}
 use Rattle.kip.specs.Capture.{whole, NextPromise}
 use Rattle.frame.specs.Judging.{judge_where, JudgePromise}
 use Rattle.inspection.specs.Lines.{line_told, line_of}
+use Rattle.inspection.specs.LinesLaws.{Put, was_put, was_full}
 use Rattle.kip.specs.Stepping.{Named, names}
 use Rattle.inspection.specs.Scanning.{Scan, most, line_at, stopped, scan_of, HandOnPromise, PutLinePromise, ScanPromise}
 use Rattle.wire.specs.declared.parts.View.{View}
@@ -49,32 +49,6 @@ unfolding scan_of
 hands k s at used n out e m f = rw (e, lt-ltb n most m, le-leb (used + length (line_at s at n)) (length out) f)
 
 -- ---- one turn of the code
-
--- a line that was written is as long as is said, and fits; where it was refused it does not, and nothing changed
-pub record Put (w out : List ℕ) (at k : ℕ) : Type 0 where
-  pub size : k ≡ length w
-  pub fits : at + length w ≤ length out
-
-was_put : (w out : List ℕ) (at k : ℕ) → Writing.told (Ok k) ≡ judged (ltb (length out) (at + length w) ⇒ BufferTooSmall ∷ []) (done (length w ∷ [])) → Put w out at k
-was_put w out at k p =
-    let cs = ltb (length out) (at + length w) ⇒ BufferTooSmall ∷ [] in
-    let t = done (length w ∷ []) in
-    record {
-      size = ap (λ (u : Told). get_or u.values 0 0) (let_through cs t (Writing.told (Ok k)) refl p);
-      fits = ltb-false (length out) (at + length w) (holds [] (ltb (length out) (at + length w)) BufferTooSmall [] (was_accepted cs t (Writing.told (Ok k)) refl p));
-    }
-
-was_full : (w out : List ℕ) (at : ℕ) (e : Refusal) → Writing.told (Err e) ≡ judged (ltb (length out) (at + length w) ⇒ BufferTooSmall ∷ []) (done (length w ∷ [])) → length out < at + length w
-was_full w out at e p = go (ltb (length out) (at + length w)) refl
-  where
-    cs : List Check
-    cs = ltb (length out) (at + length w) ⇒ BufferTooSmall ∷ []
-
-    go : (b : Bool) → ltb (length out) (at + length w) ≡ b → length out < at + length w
-    go true f = ltb-true (length out) (at + length w) f
-    go false f =
-        let q : Err e ≡ Ok tt = sym (was_refused cs (done (length w ∷ [])) 1 (nowhere e) refl p) ∙ ap (λ (b : Bool). verdict (b ⇒ BufferTooSmall ∷ [])) f in
-        never cc
 
 -- no record is there
 pub hand_short : (s out : List ℕ) (p : Spot) → NextPromise s p.at None → HandOnPromise s out p (Err Short) out

@@ -1,8 +1,6 @@
 // The lines of an inspection.
-ghost use Rattle.std.specs.Prelude.{◌≡◌, ◌+◌, ◌≤◌, length};
-ghost use Rattle.wire.specs.Layout.{CopyPromise};
-ghost use Rattle.digits.specs.Digits.{decimal};
-ghost use Rattle.inspection.specs.Lines.{HeadingPromise, closing, LinePromise, EndingPromise, NumberedPromise, cut_front};
+ghost use Rattle.std.specs.Prelude.{◌≡◌, ◌≤◌};
+ghost use Rattle.inspection.specs.Lines.{HeadingPromise, closing, LinePromise, EndingPromise, NumberedPromise, PutPromise, cut_front};
 
 use frame::Judged;
 use wire::{Fault, Refusal};
@@ -31,36 +29,25 @@ pub fn line(n: u64, judged: Result<Judged, Fault>, out: &mut [u8]) -> Result<usi
     }
 }
 
-// A number, then what closes the line. The digits are stored where they stand: no contract says which bytes `write!` leaves in a cursor, and pieces that are made first and then copied take the inspection of small records a quarter longer.
+// A number, then what closes the line. The digits are stored where they stand: no contract says which bytes `write!` leaves in a cursor, and pieces that are made first and then copied take the inspection of small records a third longer.
 #[tactic(auto, using(digits::specs::DigitLaws::places_most))]
 fn numbered(n: u64, text: &[u8], last: u64, out: &mut [u8]) -> Result<usize, Refusal>
-    requires { length text.now ≤ 9 }
     ensures { NumberedPromise n text.now last out.old result out.new }
 {
     let to_text = digits::places(n);
-    let to_end = to_text + text.len() + digits::places(last);
-    if out.len() < to_end + 1 {
-        return Err(Refusal::BufferTooSmall);
-    }
+    let size = close(text, last, out, to_text)?;
     digits::put_digits(n, out, 0, to_text);
-    close(text, last, out, to_text, to_end);
-    Ok(to_end + 1)
+    Ok(to_text + size)
 }
 
 // The last lines: `cut` where a record is unfinished, and how many whole ones there were.
-#[tactic(auto, using(digits::specs::DigitLaws::places_most))]
 pub fn ending(n: u64, cut: bool, out: &mut [u8]) -> Result<usize, Refusal>
     ensures { EndingPromise n cut out.old result out.new }
 {
     let front = cut_line(cut);
-    let text = b"records ";
-    let to_end = front.len() + text.len() + digits::places(n);
-    if out.len() < to_end + 1 {
-        return Err(Refusal::BufferTooSmall);
-    }
+    let size = close(b"records ", n, out, front.len())?;
     wire::copy_at(front, out, 0);
-    close(text, n, out, front.len(), to_end);
-    Ok(to_end + 1)
+    Ok(front.len() + size)
 }
 
 fn cut_line(cut: bool) -> &'static [u8]
@@ -69,14 +56,19 @@ fn cut_line(cut: bool) -> &'static [u8]
     if cut { b"cut\n" } else { b"" }
 }
 
-// A text, a number and a line feed, from a place on.
-fn close(text: &[u8], n: u64, out: &mut [u8], at: usize, feed: usize)
-    requires feed_value { feed ≡ at + length text.now + length (decimal n) }
-    requires feed_in_bounds { feed + 1 ≤ length out.old }
-    ensures { CopyPromise (closing text.now n) out.old at out.new }
+// A text, a number and a line feed, from a place on, or none of them.
+#[tactic(auto, using(digits::specs::DigitLaws::places_most))]
+fn close(text: &[u8], n: u64, out: &mut [u8], at: usize) -> Result<usize, Refusal>
+    requires { at ≤ 20 }
+    ensures { PutPromise (closing text.now n) at out.old result out.new }
 {
     let to_number = at + text.len();
+    let feed = to_number + digits::places(n);
+    if out.len() <= feed {
+        return Err(Refusal::BufferTooSmall);
+    }
     wire::copy_at(text, out, at);
     digits::put_digits(n, out, to_number, feed);
     wire::copy_at(b"\n", out, feed);
+    Ok(feed + 1 - at)
 }
