@@ -1,7 +1,7 @@
 -- How many digits a number has, how they are stored from the right, and that what is printed reads as the number. Assumes nothing.
-use Rattle.std.specs.Prelude.{ℕ, zero, suc, ◌+◌, ◌-◌, ◌*◌, ◌/◌, ◌%◌, ◌<◌, ◌≤◌, ◌≡◌, refl, Bool, true, false, cond, List, [], ◌∷◌, ◌++◌, eqb, ltb, length, take, drop, set}
+use Rattle.std.specs.Prelude.{ℕ, zero, suc, ◌+◌, ◌-◌, ◌*◌, ◌/◌, ◌%◌, ◌<◌, ◌≤◌, ◌≡◌, ◌^◌, max, refl, Bool, true, false, cond, List, [], ◌∷◌, ◌++◌, eqb, ltb, length, take, drop, set}
 use Rattle.std.proofs.Common.{arith, div-one, sym, ap, ◌∙◌, append_assoc, append-nil, length-append, take-append-drop, drop_at, length-take-le, ne_eqb, eqb-true, lt-ltb, le-ltb, ltb-true, ltb-false}
-use Rattle.std.proofs.Math.Nat.{div-div-eq-div-mul}
+use Rattle.std.proofs.Math.Nat.{div-div-eq-div-mul, pow-succ'}
 use Rattle.std.proofs.Math.Seq.{append_snoc}
 use Rattle.std.proofs.lemmas.List.{set_split, take-set-le}
 use Rattle.std.proofs.lemmas.Bool.{eqb-false, lt-leb}
@@ -92,6 +92,20 @@ enough_places (suc j) k n h l = go (ltb n 10) refl (enough_places j (k - 1) (n /
 pub exactly : (j k n : ℕ) → suc j ≤ k → tens j ≤ n → n < tens (suc j) → length (decimal_in k n) ≡ suc j
 exactly j k n h some l = enough_places j k n h l ∙ all_places j n some
 
+tens_power : (k : ℕ) → tens k ≡ 10 ^ k
+unfolding tens
+tens_power zero = refl
+tens_power (suc k) = ap (λ (m : ℕ). 10 * m) (tens_power k) ∙ sym (pow-succ' 10 k)
+
+-- one digit more than the greatest power of ten that the number reaches; 0 counts as 1 there
+pub log-places : (k n : ℕ) → k < 20 → 10 ^ k ≤ max 1 n → max 1 n < 10 * 10 ^ k → k + 1 ≡ length (decimal n)
+unfolding tens
+log-places zero n h low high = sym (one_place 20 n (omega arith) (omega arith))
+log-places (suc k) n h low high =
+    let p = tens_power (suc k) in
+    let some : 10 ≤ tens (suc k) = omega (arith, tens_some k) in
+    omega (arith, exactly (suc k) 20 n (omega arith) (omega (arith, p, some)) (omega (arith, p)))
+
 -- a number of 64 bits has at most twenty digits, as is its definition's bound
 digits_most : (k n : ℕ) → length (digits_of k n) ≤ k
 unfolding digits_of
@@ -101,9 +115,6 @@ digits_most (suc k) n = go (eqb n 0) (digits_most k (n / 10))
     go : (b : Bool) → length (digits_of k (n / 10)) ≤ k → length (cond b [] (digits_of k (n / 10) ++ (48 + n % 10) ∷ [])) ≤ suc k
     go true ih = omega arith
     go false ih = omega (arith, length-append (digits_of k (n / 10)) ((48 + n % 10) ∷ []))
-
-pub few_most : (n : ℕ) → length (decimal_in 4 n) ≤ 4
-few_most n = omega (arith, last_place 4 n (omega arith), digits_most 3 (n / 10))
 
 pub places_most : (n : ℕ) → length (decimal n) ≤ 20
 places_most n = omega (arith, last_place 20 n (omega arith), digits_most 19 (n / 10))

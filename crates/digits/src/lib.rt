@@ -1,56 +1,25 @@
 // Numbers as they are printed.
 #![tactic(auto)]
 
-ghost use Rattle.std.specs.Prelude.{◌≡◌, length};
-ghost use Rattle.digits.specs.Digits.{decimal_in, PlacesPromise, DigitsPromise, HexDigitPromise, HexPromise};
+ghost use Rattle.digits.specs.Digits.{PlacesPromise, DigitsPromise, HexDigitPromise, HexPromise};
 
-// How many decimal digits a number has: the length of a line is known before a byte of it is written. They are counted by fours, which costs a quarter of the divisions.
+// How many decimal digits a number has, and 0 has one: the length of a line is known before a byte of it is written.
 pub fn places(n: u64) -> usize
     ensures { PlacesPromise n result }
 {
-    let mut count = 0;
-    let mut rest = n;
-    while rest > 9999 {
-        if count == 16 {
-            break;
-        }
-        rest /= 10000;
-        count += 4;
-    }
-    count + few_places(rest)
-}
-
-// Of the four last places those that are not leading zeros; 0 has one digit.
-fn few_places(n: u64) -> usize
-    ensures { result ≡ length (decimal_in 4 n) }
-{
-    if n < 10 {
-        return 1;
-    }
-    if n < 100 {
-        return 2;
-    }
-    if n < 1000 {
-        return 3;
-    }
-    4
+    n.max(1).ilog10() as usize + 1
 }
 
 // Stores the last digits of a number from one place up to another, the last one first; none where they do not fit.
 pub fn put_digits(n: u64, out: &mut [u8], at: usize, end: usize)
     ensures { DigitsPromise n out.old at end out.new }
 {
-    if end < at {
+    if end < at || out.len() < end {
         return;
     }
-    if out.len() < end {
-        return;
-    }
-    let mut i = end;
     let mut rest = n;
-    while i > at {
-        i -= 1;
-        out[i] = 48 + (rest % 10) as u8;
+    for i in (at..end).rev() {
+        out[i] = b'0' + (rest % 10) as u8;
         rest /= 10;
     }
 }

@@ -2,68 +2,75 @@
 ghost use Rattle.inspect_io.specs.Reading.{StartPromise};
 ghost use Rattle.inspect_io.specs.Turning.{LastPromise};
 
-use crate::reading::{Turned, Went};
-use crate::{printing, reading, turning};
+use crate::printing;
+use crate::printing::Unwritten;
+use crate::reading::{Stopped, Why};
 use inspection::Progress;
 use std::io::Read;
+use wire::Refusal;
 
-// Prints what there is to say of a capture; false where nothing more can be written.
-pub(crate) fn capture<F: Read>(
-    rt: &HostRuntime,
-    file: &mut F,
-    name: &[u8],
-    input: &mut [u8],
-    out: &mut [u8],
-) -> bool {
-    let first = reading::read_start(rt, file, name, input);
-    let went = first.went;
-    if let Went::Unread = went {
-        return true;
-    }
-    let progress = first.progress;
-    inspect(rt, file, name, input, out, progress)
+// A record has 65,537 bytes at most, so that a buffer without a whole one has room.
+pub(crate) const INPUT_SIZE: usize = 131072;
+
+// What is read, the name that a failed read is told under, and the buffer of what is read and not handed on.
+#[derive(Drop)]
+pub(crate) struct Capture<'a, F> {
+    pub(crate) file: &'a mut F,
+    pub(crate) name: &'a [u8],
+    pub(crate) input: [u8; INPUT_SIZE],
 }
 
-// The start's line and, where it is one, those of the records.
-fn inspect<F: Read>(
-    rt: &HostRuntime,
-    file: &mut F,
-    name: &[u8],
-    input: &mut [u8],
-    out: &mut [u8],
-    progress: Progress,
-) -> bool
-    requires { StartPromise input.old progress }
-{
-    let have = progress.have;
-    let kip = kip::starts(wire::part(input, 0, have));
-    let used = size(inspection::heading(kip, out));
-    if !printing::printed(rt, wire::part(out, 0, used)) {
-        return false;
+impl<F: Read> Capture<'_, F> {
+    // Prints what there is to say of a capture.
+    pub(crate) fn print(&mut self, rt: &HostRuntime, out: &mut [u8]) -> Result<(), Unwritten> {
+        match self.read_start(rt) {
+            Ok(progress) => self.inspect(rt, out, progress),
+            Err(
+                Stopped {
+                    why: Why::Unread,
+                    ..
+                },
+            ) => Ok(()),
+            Err(stopped) => self.inspect(rt, out, stopped.progress),
+        }
     }
-    if kip {
-        let last = turning::turns(rt, file, name, input, out, progress);
-        return finish(rt, out, last);
+
+    // The start's line and, where it is one, those of the records.
+    fn inspect(
+        &mut self,
+        rt: &HostRuntime,
+        out: &mut [u8],
+        progress: Progress,
+    ) -> Result<(), Unwritten>
+        requires { StartPromise self.old.input progress }
+    {
+        let kip = kip::starts(wire::part(&self.input, 0, progress.have));
+        let used = inspection::heading(kip, out).unwrap_or(0);
+        printing::printed(rt, wire::part(out, 0, used))?;
+        if !kip {
+            return Ok(());
+        }
+        let stopped = self.turns(rt, out, progress);
+        finish(rt, out, stopped)
     }
-    true
 }
 
 // Where the capture ended, its last lines; where it could not be told to its end, the lines up to there. Why a read or a write failed is told already.
-fn finish(rt: &HostRuntime, out: &mut [u8], last: Turned) -> bool {
-    let progress = last.progress;
-    let spot = progress.spot;
-    let went = last.went;
-    match went {
-        Went::Ended => {
-            if !printing::printed(rt, wire::part(out, 0, spot.used)) {
-                return false;
-            }
-            let used = size(last_lines(progress, out));
+fn finish(rt: &HostRuntime, out: &mut [u8], stopped: Stopped) -> Result<(), Unwritten> {
+    let progress = stopped.progress;
+    let lines = wire::part(out, 0, progress.spot.used);
+    match stopped.why {
+        Why::Ended => {
+            printing::printed(rt, lines)?;
+            let used = last_lines(progress, out).unwrap_or(0);
             printing::printed(rt, wire::part(out, 0, used))
         }
-        Went::Unread => printing::printed(rt, wire::part(out, 0, spot.used)),
-        Went::Unwritten => false,
-        _ => too_long(rt, wire::part(out, 0, spot.used)),
+        Why::Unread => printing::printed(rt, lines),
+        Why::Unwritten => Err(Unwritten),
+        Why::TooLong => {
+            printing::told(rt, b"more records than 64 bits count\n");
+            printing::printed(rt, lines)
+        }
     }
 }
 
@@ -73,17 +80,4 @@ fn last_lines(progress: Progress, out: &mut [u8]) -> Result<usize, Refusal>
 {
     let spot = progress.spot;
     inspection::ending(spot.n, spot.at < progress.have, out)
-}
-
-fn too_long(rt: &HostRuntime, lines: &[u8]) -> bool {
-    printing::told(rt, b"more records than 64 bits count\n");
-    printing::printed(rt, lines)
-}
-
-// How much of the output a line takes: nothing where it has no room.
-fn size(written: Result<usize, Refusal>) -> usize {
-    match written {
-        Ok(k) => k,
-        Err(_) => 0,
-    }
 }

@@ -2,20 +2,21 @@
 use std::io;
 use std::io::{Cursor, Write};
 
+// Nothing more can be written. Why is told already.
+#[derive(Clone, Copy)]
+pub(crate) struct Unwritten;
+
 // Writes to standard output, or says why it could not.
-pub(crate) fn printed(rt: &HostRuntime, bytes: &[u8]) -> bool {
-    match rt.write_all(bytes) {
-        Ok(()) => true,
-        Err(error) => unwritten(rt, error),
-    }
+pub(crate) fn printed(rt: &HostRuntime, bytes: &[u8]) -> Result<(), Unwritten> {
+    rt.write_all(bytes).map_err(|error| write_failed(rt, error))
 }
 
 // Where nobody reads the output any more, the run ends without a word.
-fn unwritten(rt: &HostRuntime, error: io::Error) -> bool {
+fn write_failed(rt: &HostRuntime, error: io::Error) -> Unwritten {
     if error.kind() != io::ErrorKind::BrokenPipe {
         fail(rt, b"standard output", error);
     }
-    false
+    Unwritten
 }
 
 // What failed, and why.
@@ -31,13 +32,13 @@ pub(crate) fn fail(rt: &HostRuntime, name: &[u8], error: io::Error) {
 
 // The system's words for an error, without the number that stands behind them.
 fn reason(text: &[u8]) -> &[u8] {
-    match str::from_utf8(text) {
-        Ok(text) => match text.split_once(" (os error ") {
-            Some((words, _)) => words.as_bytes(),
-            None => text.as_bytes(),
-        },
-        Err(_) => text,
-    }
+    let Ok(text) = str::from_utf8(text) else {
+        return text;
+    };
+    let words = text
+        .split_once(" (os error ")
+        .map_or(text, |(words, _)| words);
+    words.as_bytes()
 }
 
 // Writes to standard error. Where that fails, there is no place left to say so.

@@ -1,96 +1,62 @@
-// Reading, and how it goes on from there.
+// Reading, and why a capture goes no further.
 ghost use Rattle.std.specs.Prelude.{◌≤◌, length};
-ghost use Rattle.inspect_io.specs.Reading.{StopsPromise, ReadMore, ReadStartPromise};
+ghost use Rattle.inspect_io.specs.Reading.{ReadMore, ReadStartPromise};
 
+use crate::captures::Capture;
 use crate::printing;
 use inspection::Progress;
 use std::io::Read;
 
-// The capture goes on; it ended; a read failed, which is not its end; a write failed; or it has more records than are counted.
+// The capture ended; a read failed, which is not its end; a write failed; or it has more records than are counted.
 #[derive(Clone, Copy)]
-pub(crate) enum Went {
-    On,
+pub(crate) enum Why {
     Ended,
     Unread,
     Unwritten,
     TooLong,
 }
 
+// A capture that goes no further, and where it stands.
 #[derive(Clone, Copy)]
-pub(crate) struct Turned {
+pub(crate) struct Stopped {
     pub(crate) progress: Progress,
-    pub(crate) went: Went,
+    pub(crate) why: Why,
 }
 
-pub(crate) fn stops(went: Went) -> bool
-    ensures { StopsPromise went result }
-{
-    match went {
-        Went::On => false,
-        Went::Ended => true,
-        Went::Unread => true,
-        Went::Unwritten => true,
-        Went::TooLong => true,
+impl<F: Read> Capture<'_, F> {
+    // Reads until the start is there, or nothing more comes.
+    pub(crate) fn read_start(&mut self, rt: &HostRuntime) -> Result<Progress, Stopped>
+        ensures { ReadStartPromise self.new.input result }
+    {
+        let mut progress = inspection::begin();
+        while progress.have < kip::START_SIZE {
+            progress = self.read_more(rt, progress)?;
+        }
+        Ok(progress)
     }
-}
 
-// Reads until the start is there, or nothing more comes.
-pub(crate) fn read_start<F: Read>(
-    rt: &HostRuntime,
-    file: &mut F,
-    name: &[u8],
-    input: &mut [u8],
-) -> Turned
-    ensures { ReadStartPromise input.new result }
-{
-    let mut progress = inspection::begin();
-    let turned = loop {
-        let turned = read_more(rt, file, name, input, progress);
-        let went = turned.went;
-        if stops(went) {
-            break turned;
-        }
-        let next = turned.progress;
-        if kip::START_SIZE <= next.have {
-            break turned;
-        }
-        progress = next;
-    };
-    turned
-}
-
-// Reads once behind what is there. A read that brings nothing is the capture's end; why one failed is told at once.
-pub(crate) fn read_more<F: Read>(
-    rt: &HostRuntime,
-    file: &mut F,
-    name: &[u8],
-    input: &mut [u8],
-    progress: Progress,
-) -> Turned
-    requires { progress.have ≤ length input.old }
-    ensures { ReadMore input.old progress input.new result }
-{
-    let have = progress.have;
-    let room = &mut input[have..];
-    let count = match file.read(room) {
-        Ok(count) => count,
-        Err(error) => {
-            printing::fail(rt, name, error);
-            return Turned {
+    // Reads once behind what is there. A read that brings nothing is the capture's end; why one failed is told at once.
+    pub(crate) fn read_more(
+        &mut self,
+        rt: &HostRuntime,
+        progress: Progress,
+    ) -> Result<Progress, Stopped>
+        requires { progress.have ≤ length self.old.input }
+        ensures { ReadMore self.old.input progress self.new.input result }
+    {
+        match self.file.read(&mut self.input[progress.have..]) {
+            Ok(0) => Err(Stopped {
                 progress,
-                went: Went::Unread,
-            };
+                why: Why::Ended,
+            }),
+            Ok(count) => Ok(inspection::read_on(&self.input, progress, count)),
+            Err(error) => {
+                printing::fail(rt, self.name, error);
+                Err(Stopped {
+                    progress,
+                    why: Why::Unread,
+                })
+            }
         }
-    };
-    if count == 0 {
-        return Turned {
-            progress,
-            went: Went::Ended,
-        };
-    }
-    let next = inspection::read_on(input, progress, count);
-    Turned {
-        progress: next,
-        went: Went::On,
     }
 }

@@ -1,6 +1,9 @@
 -- "KIP 1", "1 0421 11", "2 refused 2", "records 2": the lines of an inspection, each with its line feed. Assumes nothing.
-use Rattle.std.specs.Prelude.{ℕ, ◌≡◌, Bool, cond, List, [], ◌∷◌, ◌++◌, length, get_or, eqb, Result}
-use Rattle.wire.specs.Told.{Told}
+use Rattle.std.specs.Prelude.{ℕ, ◌≡◌, ◌+◌, Bool, cond, List, [], ◌∷◌, ◌++◌, length, get_or, eqb, ltb, Result}
+use Rattle.wire.specs.Told.{Told, done, judged, ◌⇒◌}
+use Rattle.wire.specs.Layout.{copied}
+use Rattle.wire.specs.Writing as Writing
+use Rattle.wire.specs.declared.refusals.Refusal.TheVariants.{BufferTooSmall}
 use Rattle.wire.specs.Writing.{WritePromise}
 use Rattle.digits.specs.Digits.{decimal, hex4}
 use Rattle.frame.specs.Judging.{told}
@@ -17,6 +20,11 @@ heading_of kip = cond kip kip_text (110 ∷ 111 ∷ 116 ∷ 32 ∷ kip_text)
 
 abbrev pub HeadingPromise : Bool → List ℕ → Result ℕ Refusal → List ℕ → Type 0
 HeadingPromise kip out r after = WritePromise (heading_of kip) out r after
+
+-- w is written from a place on, or not at all where it does not fit (1)
+abbrev pub PutPromise : List ℕ → ℕ → List ℕ → Result ℕ Refusal → List ℕ → Type 0
+PutPromise w at out r after =
+    (Writing.told r ≡ judged (ltb (length out) (at + length w) ⇒ BufferTooSmall ∷ []) (done (length w ∷ []))) × (after ≡ copied w out at)
 
 -- a text, a number and a line feed
 abbrev pub closing : List ℕ → ℕ → List ℕ
@@ -54,9 +62,6 @@ cut_text = 99 ∷ 117 ∷ 116 ∷ 10 ∷ []
 
 abbrev pub cut_front : Bool → List ℕ
 cut_front cut = cond cut cut_text []
-
-abbrev pub CutSizePromise : Bool → ℕ → Type 0
-CutSizePromise cut r = r ≡ length (cut_front cut)
 
 abbrev pub records_text : List ℕ
 records_text = 114 ∷ 101 ∷ 99 ∷ 111 ∷ 114 ∷ 100 ∷ 115 ∷ 32 ∷ []

@@ -1,38 +1,75 @@
 -- A line is its parts, each copied right behind what stands; no second answer. Assumes nothing.
-use Rattle.std.specs.Prelude.{ℕ, ◌+◌, ◌<◌, ◌≤◌, ◌≡◌, refl, List, [], ◌∷◌, ◌++◌, length, eqb, Bool, true, false, Result, Ok, Err}
-use Rattle.std.proofs.Common.{arith, sym, ap, ◌∙◌, length-append, lt-ltb, le-ltb}
-use Rattle.wire.specs.Told.{done}
+use Rattle.std.specs.Prelude.{ℕ, ◌+◌, ◌-◌, ◌<◌, ◌≤◌, ◌≡◌, refl, List, [], ◌∷◌, ◌++◌, length, take, drop, get_or, ltb, Bool, true, false, Result, Ok, Err}
+use Rattle.std.proofs.Common.{arith, sym, ap, ◌∙◌, append_assoc, length-append, length-take-le, drop_at, lt-ltb, le-ltb, ltb-true, ltb-false}
+use Rattle.std.proofs.lemmas.Bool.{lt-leb}
+use Rattle.wire.specs.Clash.{never}
+use Rattle.wire.specs.Told.{Told, done, nowhere, Check, ◌⇒◌, verdict, judged}
+use Rattle.wire.specs.ToldLaws.{holds, let_through, was_accepted, was_refused}
+use Rattle.wire.specs.Writing as Writing
 use Rattle.wire.specs.Writing.{onto, WritePromise}
 use Rattle.wire.specs.WritingLaws.{write_one}
 use Rattle.wire.specs.Layout.{copied}
-use Rattle.wire.specs.LayoutLaws.{copied_front, copied_behind, copied_on, length_three}
-use Rattle.wire.specs.Parts.{part_of}
+use Rattle.wire.specs.LayoutLaws.{copied_is, copied_front, copied_on, length_three}
 use Rattle.wire.specs.declared.refusals.Refusal.TheVariants.{BufferTooSmall}
 use Rattle.digits.specs.Digits.{decimal}
-use Rattle.inspection.specs.Lines.{heading_of, HeadingPromise, closing, numbered, service_text, refused_text, line_of, LinePromise, cut_text, cut_front, ending_of, EndingPromise}
+use Rattle.inspection.specs.Lines.{heading_of, HeadingPromise, PutPromise, closing, line_of, LinePromise, ending_of, EndingPromise}
 use Rattle.frame.specs.declared.judging.Judged.{Judged}
 use Rattle.wire.specs.declared.refusals.Refusal.{Refusal}
 use Rattle.wire.specs.declared.refusals.Fault.{Fault}
 
-pub closing-length : (text : List ℕ) (n : ℕ) → length (closing text n) ≡ length text + length (decimal n) + 1
+closing-length : (text : List ℕ) (n : ℕ) → length (closing text n) ≡ length text + length (decimal n) + 1
 closing-length text n = length_three text (decimal n) (10 ∷ [])
 
--- a front and what closes the line, each copied right behind what stands
-module _ (front text out : List ℕ) (n to-text to_end : ℕ) (a : to-text ≡ length front) (b : to_end ≡ to-text + length text + length (decimal n)) where
-  line-length : length (front ++ closing text n) ≡ to_end + 1
-  line-length = length-append front (closing text n) ∙ omega (arith, closing-length text n)
+-- what was written is as long as is said, and fits; where it was refused it does not, and nothing changed
+pub record Put (w out : List ℕ) (at k : ℕ) : Type 0 where
+  pub size : k ≡ length w
+  pub fits : at + length w ≤ length out
 
-  pub no_room : length out < to_end + 1 → WritePromise (front ++ closing text n) out (Err BufferTooSmall) out
-  no_room h = let q = lt-ltb (length out) (length (front ++ closing text n)) (omega (arith, line-length)) in (simp q, simp q)
+pub was_put : (w out : List ℕ) (at k : ℕ) → Writing.told (Ok k) ≡ judged (ltb (length out) (at + length w) ⇒ BufferTooSmall ∷ []) (done (length w ∷ [])) → Put w out at k
+was_put w out at k p =
+    let cs = ltb (length out) (at + length w) ⇒ BufferTooSmall ∷ [] in
+    let t = done (length w ∷ []) in
+    record {
+      size = ap (λ (u : Told). get_or u.values 0 0) (let_through cs t (Writing.told (Ok k)) refl p);
+      fits = ltb-false (length out) (at + length w) (holds [] (ltb (length out) (at + length w)) BufferTooSmall [] (was_accepted cs t (Writing.told (Ok k)) refl p));
+    }
 
-  pub laid : to_end + 1 ≤ length out → (one after : List ℕ) → one ≡ copied front out 0 → after ≡ copied (closing text n) one to-text
-      → WritePromise (front ++ closing text n) out (Ok (to_end + 1)) after
-  laid h one after p q =
-      let fits = le-ltb (length out) (length (front ++ closing text n)) (omega (arith, line-length)) in
-      let first : one ≡ onto out front = p ∙ copied_front front out (omega arith) in
-      let second : after ≡ onto out (front ++ closing text n) =
-      q ∙ ap (λ (l : List ℕ). copied (closing text n) l to-text) first ∙ copied_behind front (closing text n) out to-text (sym a) (omega (arith, closing-length text n)) in
-      (simp fits (ap (λ (k : ℕ). done (k ∷ [])) (sym line-length)), simp fits second)
+pub was_full : (w out : List ℕ) (at : ℕ) (e : Refusal) → Writing.told (Err e) ≡ judged (ltb (length out) (at + length w) ⇒ BufferTooSmall ∷ []) (done (length w ∷ [])) → length out < at + length w
+was_full w out at e p = go (ltb (length out) (at + length w)) refl
+  where
+    cs : List Check
+    cs = ltb (length out) (at + length w) ⇒ BufferTooSmall ∷ []
+
+    go : (b : Bool) → ltb (length out) (at + length w) ≡ b → length out < at + length w
+    go true f = ltb-true (length out) (at + length w) f
+    go false f =
+        let q : Err e ≡ Ok tt = sym (was_refused cs (done (length w ∷ [])) 1 (nowhere e) refl p) ∙ ap (λ (b : Bool). verdict (b ⇒ BufferTooSmall ∷ [])) f in
+        never cc
+
+-- a front of as many bytes, copied before it, makes the whole line
+module _ (front w out : List ℕ) (at : ℕ) (a : at ≡ length front) where
+  both : length (front ++ w) ≡ at + length w
+  both = omega (arith, length-append front w)
+
+  pub front_full : (e : Refusal) (after : List ℕ) → PutPromise w at out (Err e) after → WritePromise (front ++ w) out (Err e) after
+  front_full e after p =
+      let none = was_full w out at e p.0 in
+      let part = lt-ltb (length out) (at + length w) none in
+      let whole = lt-ltb (length out) (length (front ++ w)) (omega (arith, both)) in
+      (simp whole (simp part at p.0), simp whole (p.1 ∙ simp (lt-leb (at + length w) (length out) none)))
+
+  pub front_put : (k : ℕ) (one after : List ℕ) → PutPromise w at out (Ok k) one → after ≡ copied front one 0 → WritePromise (front ++ w) out (Ok (at + k)) after
+  front_put k one after p q =
+      let x = was_put w out at k p.0 in
+      let rest : List ℕ = drop (at + length w) out in
+      let fits = le-ltb (length out) (length (front ++ w)) (omega (arith, both, x.fits)) in
+      let put : one ≡ take at out ++ (w ++ rest) = p.1 ∙ copied_is w out at (at + length w) refl x.fits ∙ append_assoc (take at out) w rest in
+      let short : length (take at out) ≡ at = length-take-le at out (omega (arith, x.fits)) in
+      let room : length front ≤ length one = omega (arith, ap length put, length-append (take at out) (w ++ rest), short) in
+      let behind : drop (length front) one ≡ w ++ rest = ap (drop (length front)) put ∙ drop_at (take at out) (w ++ rest) (length front) (omega (arith, short)) in
+      let all : after ≡ onto out (front ++ w) =
+      q ∙ copied_front front one room ∙ ap (λ (l : List ℕ). front ++ l) behind ∙ sym (append_assoc front w rest) ∙ ap (λ (m : ℕ). (front ++ w) ++ drop m out) (sym both) in
+      (simp fits (ap (λ (m : ℕ). done (m ∷ [])) (omega (arith, both, x.size))), simp fits all)
 
 -- a text, a number and a line feed, each copied right behind what stands
 pub closed : (text out one two after : List ℕ) (n at to_number to_end : ℕ)
@@ -43,20 +80,16 @@ closed text out one two after n at to_number to_end a b fits p q r =
     q ∙ ap (λ (l : List ℕ). copied (decimal n) l to_number) p ∙ copied_on text (decimal n) out at to_number (sym a) (omega arith) in
     r ∙ ap (λ (l : List ℕ). copied (10 ∷ []) l to_end) second ∙ copied_on (text ++ decimal n) (10 ∷ []) out at to_end (omega (arith, length-append text (decimal n))) (omega arith)
 
--- the line `cut`, or none of it
-pub cut_part : (cut : Bool) → part_of cut_text 0 (length (cut_front cut)) ≡ cut_front cut
-cut_part true = refl
-cut_part false = refl
+-- and where it does not fit
+pub unclosed : (text out : List ℕ) (n at feed : ℕ) → feed ≡ at + length text + length (decimal n) → length out ≤ feed → PutPromise (closing text n) at out (Err BufferTooSmall) out
+unclosed text out n at feed b h =
+    let long = closing-length text n in
+    (simp (lt-ltb (length out) (at + length (closing text n)) (omega (arith, long))), sym (simp (lt-leb (at + length (closing text n)) (length out) (omega (arith, long)))))
 
-pub cut_most : (cut : Bool) → length (cut_front cut) ≤ 4
-cut_most true = omega arith
-cut_most false = omega arith
-
-pub framed-line : (n : ℕ) (j : Result Judged Fault) → eqb j.number 0 ≡ true → numbered n (service_text j.service) j.total ≡ line_of n j
-framed-line n j e = rw e
-
-pub refused-line : (n : ℕ) (j : Result Judged Fault) → eqb j.number 0 ≡ false → numbered n refused_text j.number ≡ line_of n j
-refused-line n j e = rw e
+pub closed_put : (text out after : List ℕ) (n at feed : ℕ) → feed ≡ at + length text + length (decimal n) → feed < length out → after ≡ copied (closing text n) out at → PutPromise (closing text n) at out (Ok (feed + 1 - at)) after
+closed_put text out after n at feed b h p =
+    let long = closing-length text n in
+    (simp (le-ltb (length out) (at + length (closing text n)) (omega (arith, long))) (ap (λ (m : ℕ). done (m ∷ [])) (omega (arith, long))), p)
 
 pub heading_one : (kip : Bool) (out : List ℕ) (r q : Result ℕ Refusal) (after later : List ℕ) → HeadingPromise kip out r after → HeadingPromise kip out q later → (r ≡ q) × (after ≡ later)
 heading_one kip = write_one (heading_of kip)

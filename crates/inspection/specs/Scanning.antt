@@ -1,12 +1,9 @@
 -- What a scan of a buffer prints and where it stops: record after record, while a whole one is there, it can be counted, and its line fits. Assumes nothing.
-use Rattle.std.specs.Prelude.{ℕ, zero, suc, ◌+◌, ◌≡◌, cond, List, [], ◌∷◌, length, drop, leb, ltb, Result}
-use Rattle.wire.specs.Told.{done, judged, ◌⇒◌}
+use Rattle.std.specs.Prelude.{ℕ, zero, suc, ◌+◌, ◌≡◌, cond, List, length, drop, leb, ltb, Result, Ok, Err}
 use Rattle.wire.specs.Layout.{word_at, copied}
-use Rattle.wire.specs.Writing as Writing
-use Rattle.wire.specs.declared.refusals.Refusal.TheVariants.{BufferTooSmall}
 use Rattle.kip.specs.Capture.{whole, first_in}
 use Rattle.frame.specs.Judging.{judge_by01}
-use Rattle.inspection.specs.Lines.{line_told, line_of}
+use Rattle.inspection.specs.Lines.{line_told, line_of, PutPromise}
 use Rattle.frame.specs.declared.judging.Judged.{Judged}
 use Rattle.inspection.specs.declared.scanning.Spot.{Spot}
 use Rattle.inspection.specs.declared.scanning.Scanned.{Scanned}
@@ -15,10 +12,9 @@ use Rattle.inspection.specs.declared.scanning.Stop.TheVariants.{Short, Full, Las
 use Rattle.wire.specs.declared.refusals.Refusal.{Refusal}
 use Rattle.wire.specs.declared.refusals.Fault.{Fault}
 
--- written from a place on, or not at all where it does not fit (1)
+-- a record's line, from a place on
 abbrev pub PutLinePromise : ℕ → Result Judged Fault → ℕ → List ℕ → Result ℕ Refusal → List ℕ → Type 0
-PutLinePromise n j at out r after =
-    (Writing.told r ≡ judged (ltb (length out) (at + length (line_of n j)) ⇒ BufferTooSmall ∷ []) (done (length (line_of n j) ∷ []))) × (after ≡ copied (line_of n j) out at)
+PutLinePromise n j at out r after = PutPromise (line_of n j) at out r after
 
 -- where a scan is: how far it handed on, how much of the output is used, how many records there were, the output, and why it stopped
 pub record Scan : Type 0 where
@@ -49,6 +45,15 @@ scan_of (suc k) s at used n out =
     (stopped at used n out Full))
     (stopped at used n out Last))
     (stopped at used n out Short)
+
+-- what is still to be scanned behind a turn: the records from where the scan is then, or none where it stopped
+abbrev pub goes_on : ℕ → List ℕ → Spot → Result Spot Stop → List ℕ → Scan
+goes_on k s spot (Ok next) after = scan_of k s next.at next.used next.n after
+goes_on k s spot (Err stop) after = stopped spot.at spot.used spot.n after stop
+
+-- a scan of one turn more is this turn, and then the others
+abbrev pub HandOnPromise : List ℕ → List ℕ → Spot → Result Spot Stop → List ℕ → Type 0
+HandOnPromise s out spot r after = (k : ℕ) → scan_of (suc k) s spot.at spot.used spot.n out ≡ goes_on k s spot r after
 
 -- what the code's answer and the output afterwards say
 abbrev pub scanned : Scanned → List ℕ → Scan

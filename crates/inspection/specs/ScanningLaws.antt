@@ -1,24 +1,22 @@
 -- A scan, one turn at a time, as the code makes it; no second answer. Assumes nothing.
-use Rattle.std.specs.Prelude.{ℕ, zero, suc, ◌+◌, ◌-◌, ◌≤◌, ◌<◌, ◌≡◌, refl, Bool, true, false, cond, List, [], ◌∷◌, ◌++◌, length, get_or, take, drop, ltb, Result, Ok, Err}
-use Rattle.std.proofs.Common.{arith, sym, ap, ◌∙◌, append_assoc, append-nil, length-drop, take-append-drop, drop_of_length-le, drop-drop, le-leb, le-ltb, lt-ltb, ltb-true, ltb-false}
+use Rattle.std.specs.Prelude.{ℕ, zero, suc, ◌+◌, ◌≤◌, ◌<◌, ◌≡◌, refl, Bool, true, false, cond, List, length, drop, Result, Ok, Err, Option, Some, None}
+use Rattle.std.proofs.Common.{arith, sym, ap, ◌∙◌, le-leb, le-ltb, lt-ltb}
 use Rattle.std.proofs.lemmas.Bool.{lt-leb}
 use Rattle.wire.specs.Clash.{never}
-use Rattle.wire.specs.Told.{Told, done, refused, nowhere, Check, ◌⇒◌, verdict, judged, lent}
-use Rattle.wire.specs.ToldLaws.{same, same_test, holds, let_through, was_accepted, was_refused}
+use Rattle.wire.specs.Told.{refused}
+use Rattle.wire.specs.ToldLaws.{same}
 use Rattle.wire.specs.Parts.{part_of}
 use Rattle.wire.specs.Layout.{word_at, copied}
-use Rattle.wire.specs.LayoutLaws.{copied_is}
 use Rattle.wire.specs.Writing.{onto, WritePromise}
 use Rattle.wire.specs.Writing as Writing
 use Rattle.wire.specs.declared.refusals.Refusal.{Refusal}
-use Rattle.wire.specs.declared.refusals.Refusal.TheVariants.{BufferTooSmall}
-use Rattle.kip.specs.Capture.{whole, first_in, NextPromise}
-use Rattle.frame.specs.Judging.{judge_by01, judge_where, JudgePromise}
+use Rattle.kip.specs.Capture.{whole, NextPromise}
+use Rattle.frame.specs.Judging.{judge_where, JudgePromise}
 use Rattle.inspection.specs.Lines.{line_told, line_of}
+use Rattle.inspection.specs.LinesLaws.{Put, was_put, was_full}
 use Rattle.kip.specs.Stepping.{Named, names}
-use Rattle.inspection.specs.Scanning.{Scan, most, line_at, stopped, scan_of, PutLinePromise, ScanPromise}
-use Rattle.kip.specs.declared.capture.Next.TheVariants.{Record}
-use Rattle.kip.specs.declared.capture.Next.TheVariants as Next
+use Rattle.inspection.specs.Scanning.{Scan, most, line_at, stopped, scan_of, HandOnPromise, PutLinePromise, ScanPromise}
+use Rattle.wire.specs.declared.parts.View.{View}
 use Rattle.frame.specs.declared.judging.Judged.{Judged}
 use Rattle.inspection.specs.declared.scanning.Spot.{Spot}
 use Rattle.inspection.specs.declared.scanning.Scanned.{Scanned}
@@ -36,164 +34,93 @@ unfolding scan_of
 short zero s at used n out e = refl
 short (suc k) s at used n out e = rw e
 
-pub last : (k : ℕ) (s : List ℕ) (at used n : ℕ) (out : List ℕ) → 1 ≤ k → whole (drop at s) ≡ true → most ≤ n → scan_of k s at used n out ≡ stopped at used n out Last
+pub last : (k : ℕ) (s : List ℕ) (at used n : ℕ) (out : List ℕ) → whole (drop at s) ≡ true → most ≤ n → scan_of (suc k) s at used n out ≡ stopped at used n out Last
 unfolding scan_of
-last zero s at used n out h e f = absurd (omega arith)
-last (suc k) s at used n out h e f = rw (e, le-ltb n most f)
+last k s at used n out e f = rw (e, le-ltb n most f)
 
-pub no_room : (k : ℕ) (s : List ℕ) (at used n : ℕ) (out : List ℕ) → 1 ≤ k → whole (drop at s) ≡ true → n < most → length out < used + length (line_at s at n)
-    → scan_of k s at used n out ≡ stopped at used n out Full
+pub no_room : (k : ℕ) (s : List ℕ) (at used n : ℕ) (out : List ℕ) → whole (drop at s) ≡ true → n < most → length out < used + length (line_at s at n)
+    → scan_of (suc k) s at used n out ≡ stopped at used n out Full
 unfolding scan_of
-no_room zero s at used n out h e m f = absurd (omega arith)
-no_room (suc k) s at used n out h e m f = rw (e, lt-ltb n most m, lt-leb (used + length (line_at s at n)) (length out) f)
+no_room k s at used n out e m f = rw (e, lt-ltb n most m, lt-leb (used + length (line_at s at n)) (length out) f)
 
-pub hands : (k : ℕ) (s : List ℕ) (at used n : ℕ) (out : List ℕ) → 1 ≤ k → whole (drop at s) ≡ true → n < most → used + length (line_at s at n) ≤ length out
-    → scan_of k s at used n out ≡ scan_of (k - 1) s (at + 2 + word_at s at) (used + length (line_at s at n)) (n + 1) (copied (line_at s at n) out used)
+pub hands : (k : ℕ) (s : List ℕ) (at used n : ℕ) (out : List ℕ) → whole (drop at s) ≡ true → n < most → used + length (line_at s at n) ≤ length out
+    → scan_of (suc k) s at used n out ≡ scan_of k s (at + 2 + word_at s at) (used + length (line_at s at n)) (n + 1) (copied (line_at s at n) out used)
 unfolding scan_of
-hands zero s at used n out h e m f = absurd (omega arith)
-hands (suc k) s at used n out h e m f =
-    let q : suc k - 1 ≡ k = omega arith in
-    rw (q, e, lt-ltb n most m, le-leb (used + length (line_at s at n)) (length out) f)
-
--- ---- a line behind what stands
-
-pub put-behind : (w out after : List ℕ) (at : ℕ) (r : Result ℕ Refusal) → at ≤ length out → WritePromise w (drop at out) r after
-    → (Writing.told r ≡ judged (ltb (length out) (at + length w) ⇒ BufferTooSmall ∷ []) (done (length w ∷ []))) × (take at out ++ after ≡ copied w out at)
-put-behind w out after at r h p = (p.0 ∙ ap (λ (b : Bool). judged (b ⇒ BufferTooSmall ∷ []) (done (length w ∷ []))) same, go (ltb (length out) (at + length w)) refl)
-  where
-    rest : List ℕ
-    rest = drop at out
-
-    same : ltb (length (drop at out)) (length w) ≡ ltb (length out) (at + length w)
-    same = same_test (length (drop at out)) (length w) (length out) (at + length w) (λ x. omega (arith, length-drop at out)) (λ x. omega (arith, length-drop at out))
-
-    afterwards : (b : Bool) → ltb (length out) (at + length w) ≡ b → after ≡ lent (verdict (b ⇒ BufferTooSmall ∷ [])) (drop at out) (onto (drop at out) w)
-    afterwards b e = p.1 ∙ ap (λ (c : Bool). lent (verdict (c ⇒ BufferTooSmall ∷ [])) (drop at out) (onto (drop at out) w)) (same ∙ e)
-
-    go : (b : Bool) → ltb (length out) (at + length w) ≡ b → take at out ++ after ≡ copied w out at
-    go true e =
-        ap (λ (l : List ℕ). take at out ++ l) (afterwards true e) ∙ take-append-drop at out
-        ∙ sym (ap (λ (c : Bool). cond c (take at out ++ w ++ drop (at + length w) out) out) (lt-leb (at + length w) (length out) (ltb-true (length out) (at + length w) e)))
-    go false e =
-        ap (λ (l : List ℕ). take at out ++ l) (afterwards false e ∙ ap (λ (l : List ℕ). w ++ l) (drop-drop (length w) at out))
-        ∙ sym (append_assoc (take at out) w (drop (at + length w) out))
-        ∙ sym (copied_is w out at (at + length w) refl (ltb-false (length out) (at + length w) e))
-
--- nothing lies behind a part that runs to the end
-pub to_the_end : (out after : List ℕ) (at : ℕ) → at ≤ length out → take at out ++ (after ++ drop (length out - at) (drop at out)) ≡ take at out ++ after
-to_the_end out after at h =
-    ap (λ (l : List ℕ). take at out ++ (after ++ l)) (drop_of_length-le (drop at out) {i = length out - at} (omega (arith, length-drop at out)))
-    ∙ ap (λ (l : List ℕ). take at out ++ l) (append-nil after)
-
-pub no_place : (w out : List ℕ) (at : ℕ) → length out < at
-    → (refused 1 (nowhere BufferTooSmall) ≡ judged (ltb (length out) (at + length w) ⇒ BufferTooSmall ∷ []) (done (length w ∷ []))) × (out ≡ copied w out at)
-no_place w out at h =
-    (simp (lt-ltb (length out) (at + length w) (omega arith)), simp (lt-leb (at + length w) (length out) (omega arith)))
+hands k s at used n out e m f = rw (e, lt-ltb n most m, le-leb (used + length (line_at s at n)) (length out) f)
 
 -- ---- one turn of the code
 
--- a line that was written is as long as is said, and fits; where it was refused it does not, and nothing changed
-pub record Put (w out : List ℕ) (at k : ℕ) : Type 0 where
-  pub size : k ≡ length w
-  pub fits : at + length w ≤ length out
-
-was_put : (w out : List ℕ) (at k : ℕ) → Writing.told (Ok k) ≡ judged (ltb (length out) (at + length w) ⇒ BufferTooSmall ∷ []) (done (length w ∷ [])) → Put w out at k
-was_put w out at k p =
-    let cs = ltb (length out) (at + length w) ⇒ BufferTooSmall ∷ [] in
-    let t = done (length w ∷ []) in
-    record {
-      size = ap (λ (u : Told). get_or u.values 0 0) (let_through cs t (Writing.told (Ok k)) refl p);
-      fits = ltb-false (length out) (at + length w) (holds [] (ltb (length out) (at + length w)) BufferTooSmall [] (was_accepted cs t (Writing.told (Ok k)) refl p));
-    }
-
-was_full : (w out : List ℕ) (at : ℕ) (e : Refusal) → Writing.told (Err e) ≡ judged (ltb (length out) (at + length w) ⇒ BufferTooSmall ∷ []) (done (length w ∷ [])) → length out < at + length w
-was_full w out at e p = go (ltb (length out) (at + length w)) refl
+-- no record is there
+pub hand_short : (s out : List ℕ) (p : Spot) → NextPromise s p.at None → HandOnPromise s out p (Err Short) out
+hand_short s out p q k = short (suc k) s p.at p.used p.n out (go (whole (drop p.at s)) refl q)
   where
-    cs : List Check
-    cs = ltb (length out) (at + length w) ⇒ BufferTooSmall ∷ []
-
-    go : (b : Bool) → ltb (length out) (at + length w) ≡ b → length out < at + length w
-    go true f = ltb-true (length out) (at + length w) f
-    go false f =
-        let q : Err e ≡ Ok tt = sym (was_refused cs (done (length w ∷ [])) 1 (nowhere e) refl p) ∙ ap (λ (b : Bool). verdict (b ⇒ BufferTooSmall ∷ [])) f in
-        never cc
-
-pub turn_short : (k : ℕ) (s : List ℕ) (at used n : ℕ) (out : List ℕ) → NextPromise s at Next.Short → scan_of k s at used n out ≡ stopped at used n out Short
-turn_short k s at used n out p = short k s at used n out (go (whole (drop at s)) refl p)
-  where
-    go : (b : Bool) → whole (drop at s) ≡ b → Next.Short ≡ cond b (Record (at + 2) (at + 2 + word_at s at)) Next.Short → whole (drop at s) ≡ false
+    go : (b : Bool) → whole (drop p.at s) ≡ b → ◌≡◌ {A = Option View} None (cond b (Some (record { start = p.at + 2; end = p.at + 2 + word_at s p.at })) None) → whole (drop p.at s) ≡ false
     go true e q = never cc
     go false e q = e
 
--- a turn that has a record which no number is left for
-pub turn_last : (k : ℕ) (s : List ℕ) (at used n : ℕ) (out : List ℕ) (start end : ℕ) → 1 ≤ k → NextPromise s at (Record start end) → most ≤ n → scan_of k s at used n out ≡ stopped at used n out Last
-turn_last k s at used n out start end h p m = last k s at used n out h (names s at start end p).is_there m
+-- one is there which no number is left for
+pub hand_last : (s out : List ℕ) (p : Spot) (v : View) → NextPromise s p.at (Some v) → most ≤ p.n → HandOnPromise s out p (Err Last) out
+hand_last s out p v q m k = last k s p.at p.used p.n out (names s p.at v.start v.end q).is_there m
 
--- a turn that has a record: what was named, told and counted of it, and what putting its line answered
+-- a turn that has a record: what was named and told of it, and what putting its line answered
 pub record Turn : Type 0 where
-  pub turns : ℕ
   pub input : List ℕ
-  pub at : ℕ
-  pub used : ℕ
-  pub n : ℕ
+  pub spot : Spot
   pub out : List ℕ
-  pub start : ℕ
-  pub end : ℕ
-  pub next : ℕ
+  pub view : View
   pub told_of : Result Judged Fault
   pub answer : Result ℕ Refusal
   pub after : List ℕ
-  pub some : 1 ≤ turns
-  pub counts : n < most
-  pub named : NextPromise input at (Record start end)
-  pub told_so : JudgePromise (part_of input start end) told_of
-  pub counted : next ≡ n + 1
-  pub put : PutLinePromise next told_of used out answer after
+  pub counts : spot.n < most
+  pub named : NextPromise input spot.at (Some view)
+  pub told_so : JudgePromise (part_of input view.start view.end) told_of
+  pub put : PutLinePromise (spot.n + 1) told_of spot.used out answer after
 
 module _ (t : Turn) where
-  there : Named t.input t.at t.start t.end
-  there = names t.input t.at t.start t.end t.named
+  there : Named t.input t.spot.at t.view.start t.view.end
+  there = names t.input t.spot.at t.view.start t.view.end t.named
 
-  ends : t.end ≡ t.at + 2 + word_at t.input t.at
-  ends = go (whole (drop t.at t.input)) there.is_there t.named
+  ends : t.view.end ≡ t.spot.at + 2 + word_at t.input t.spot.at
+  ends = go (whole (drop t.spot.at t.input)) there.is_there t.named
     where
-      go : (b : Bool) → b ≡ true → Record t.start t.end ≡ cond b (Record (t.at + 2) (t.at + 2 + word_at t.input t.at)) Next.Short → t.end ≡ t.at + 2 + word_at t.input t.at
-      go true e q = cc
+      named-view : View
+      named-view = record { start = t.spot.at + 2; end = t.spot.at + 2 + word_at t.input t.spot.at }
+
+      go : (b : Bool) → b ≡ true → Some t.view ≡ cond b (Some named-view) None → t.view.end ≡ t.spot.at + 2 + word_at t.input t.spot.at
+      go true e q = let v : t.view ≡ named-view = cc in ap (λ (x : View). x.end) v
       go false e q = never cc
 
   -- the line that is put is the record's, in which no offset is told
   abbrev line : List ℕ
-  line = line_of t.next t.told_of
+  line = line_of (t.spot.n + 1) t.told_of
 
-  the_line : line ≡ line_at t.input t.at t.n
-  the_line =
-      ap (line_told t.next) (t.told_so ∙ ap judge_where there.datagram)
-      ∙ ap (λ (m : ℕ). line_told m (judge_by01 (first_in (drop t.at t.input)))) t.counted
+  the_line : line ≡ line_at t.input t.spot.at t.spot.n
+  the_line = ap (line_told (t.spot.n + 1)) (t.told_so ∙ ap judge_where there.datagram)
 
-  pub turn_full : (e : Refusal) → t.answer ≡ Err e → scan_of t.turns t.input t.at t.used t.n t.out ≡ stopped t.at t.used t.n t.after Full
-  turn_full e refused =
-      let none = was_full line t.out t.used e (ap Writing.told (sym refused) ∙ t.put.0) in
-      let same_out : t.after ≡ t.out = t.put.1 ∙ simp (lt-leb (t.used + length line) (length t.out) none) in
-      no_room t.turns t.input t.at t.used t.n t.out t.some there.is_there t.counts (omega (arith, ap length the_line))
-      ∙ ap (λ (l : List ℕ). stopped t.at t.used t.n l Full) (sym same_out)
+  pub turn_full : (e : Refusal) → t.answer ≡ Err e → HandOnPromise t.input t.out t.spot (Err Full) t.after
+  turn_full e refused k =
+      let none = was_full line t.out t.spot.used e (ap Writing.told (sym refused) ∙ t.put.0) in
+      let same_out : t.after ≡ t.out = t.put.1 ∙ simp (lt-leb (t.spot.used + length line) (length t.out) none) in
+      no_room k t.input t.spot.at t.spot.used t.spot.n t.out there.is_there t.counts (omega (arith, ap length the_line))
+      ∙ ap (λ (l : List ℕ). stopped t.spot.at t.spot.used t.spot.n l Full) (sym same_out)
 
   module _ (size : ℕ) (written : t.answer ≡ Ok size) where
-    as_put : Put line t.out t.used size
-    as_put = was_put line t.out t.used size (ap Writing.told (sym written) ∙ t.put.0)
+    as_put : Put line t.out t.spot.used size
+    as_put = was_put line t.out t.spot.used size (ap Writing.told (sym written) ∙ t.put.0)
 
-    pub turn_fits : t.used + size ≤ length t.out
+    pub turn_fits : t.spot.used + size ≤ length t.out
     turn_fits = omega (arith, as_put.fits, as_put.size)
 
-    pub turn_hands : scan_of t.turns t.input t.at t.used t.n t.out ≡ scan_of (t.turns - 1) t.input t.end (t.used + size) t.next t.after
-    turn_hands =
-        let w : List ℕ = line_at t.input t.at t.n in
-        let k : ℕ = t.turns - 1 in
+    pub turn_hands : HandOnPromise t.input t.out t.spot (Ok (record { at = t.view.end; used = t.spot.used + size; n = t.spot.n + 1 })) t.after
+    turn_hands k =
+        let w : List ℕ = line_at t.input t.spot.at t.spot.n in
+        let n : ℕ = t.spot.n + 1 in
+        let used : ℕ = t.spot.used in
         let long : length w ≡ size = ap length (sym the_line) ∙ sym as_put.size in
-        hands t.turns t.input t.at t.used t.n t.out t.some there.is_there t.counts (omega (arith, as_put.fits, as_put.size))
-        ∙ ap (λ (e : ℕ). scan_of k t.input e (t.used + length w) (t.n + 1) (copied w t.out t.used)) (sym ends)
-        ∙ ap (λ (m : ℕ). scan_of k t.input t.end (t.used + m) (t.n + 1) (copied w t.out t.used)) long
-        ∙ ap (λ (m : ℕ). scan_of k t.input t.end (t.used + size) m (copied w t.out t.used)) (sym t.counted)
-        ∙ ap (scan_of k t.input t.end (t.used + size) t.next) (ap (λ (l : List ℕ). copied l t.out t.used) (sym the_line) ∙ sym t.put.1)
+        hands k t.input t.spot.at used t.spot.n t.out there.is_there t.counts (omega (arith, as_put.fits, as_put.size))
+        ∙ ap (λ (e : ℕ). scan_of k t.input e (used + length w) n (copied w t.out used)) (sym ends)
+        ∙ ap (λ (m : ℕ). scan_of k t.input t.view.end (used + m) n (copied w t.out used)) long
+        ∙ ap (scan_of k t.input t.view.end (used + size) n) (ap (λ (l : List ℕ). copied l t.out used) (sym the_line) ∙ sym t.put.1)
 
 -- ---- no second answer
 

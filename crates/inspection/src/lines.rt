@@ -1,81 +1,74 @@
 // The lines of an inspection.
-ghost use Rattle.std.specs.Prelude.{◌≡◌, ◌+◌, ◌≤◌, length};
-ghost use Rattle.wire.specs.Layout.{CopyPromise};
-ghost use Rattle.digits.specs.Digits.{decimal};
-ghost use Rattle.inspection.specs.Lines.{HeadingPromise, closing, LinePromise, EndingPromise, NumberedPromise, CutSizePromise};
+ghost use Rattle.std.specs.Prelude.{◌≡◌, ◌≤◌};
+ghost use Rattle.inspection.specs.Lines.{HeadingPromise, closing, LinePromise, EndingPromise, NumberedPromise, PutPromise, cut_front};
 
 use frame::Judged;
-use wire::Refusal;
+use wire::{Fault, Refusal};
 
 // The first line: whether the bytes start as a capture does.
 pub fn heading(kip: bool, out: &mut [u8]) -> Result<usize, Refusal>
     ensures { HeadingPromise kip out.old result out.new }
 {
     if kip {
-        return wire::write(b"KIP 1\n", out);
+        wire::write(b"KIP 1\n", out)
+    } else {
+        wire::write(b"not KIP 1\n", out)
     }
-    wire::write(b"not KIP 1\n", out)
 }
 
 // The record's number in the capture, then service and total length, or the refusal.
-pub fn line(n: u64, judged: Judged, out: &mut [u8]) -> Result<usize, Refusal>
+pub fn line(n: u64, judged: Result<Judged, Fault>, out: &mut [u8]) -> Result<usize, Refusal>
     ensures { LinePromise n judged out.old result out.new }
 {
-    if judged.number == 0 {
-        let service = digits::hex4(judged.service);
-        let text = [b' ', service[0], service[1], service[2], service[3], b' '];
-        return numbered(n, &text, judged.total as u64, out);
+    match judged {
+        Ok(judged) => {
+            let [a, b, c, d] = digits::hex4(judged.service);
+            numbered(n, &[b' ', a, b, c, d, b' '], judged.total as u64, out)
+        }
+        Err(fault) => numbered(n, b" refused ", fault.why.number() as u64, out),
     }
-    let text = [b' ', b'r', b'e', b'f', b'u', b's', b'e', b'd', b' '];
-    numbered(n, &text, judged.number as u64, out)
 }
 
-// A number, then what closes the line.
+// A number, then what closes the line. The digits are stored where they stand: no contract says which bytes `write!` leaves in a cursor, and pieces that are made first and then copied take the inspection of small records a third longer.
+#[tactic(auto, using(digits::specs::DigitLaws::places_most))]
 fn numbered(n: u64, text: &[u8], last: u64, out: &mut [u8]) -> Result<usize, Refusal>
-    requires { length text.now ≤ 9 }
     ensures { NumberedPromise n text.now last out.old result out.new }
 {
     let to_text = digits::places(n);
-    let to_end = to_text + text.len() + digits::places(last);
-    if out.len() < to_end + 1 {
-        return Err(Refusal::BufferTooSmall);
-    }
+    let size = close(text, last, out, to_text)?;
     digits::put_digits(n, out, 0, to_text);
-    close(text, last, out, to_text, to_end);
-    Ok(to_end + 1)
+    Ok(to_text + size)
 }
 
 // The last lines: `cut` where a record is unfinished, and how many whole ones there were.
 pub fn ending(n: u64, cut: bool, out: &mut [u8]) -> Result<usize, Refusal>
     ensures { EndingPromise n cut out.old result out.new }
 {
-    let front = [b'c', b'u', b't', b'\n'];
-    let text = [b'r', b'e', b'c', b'o', b'r', b'd', b's', b' '];
-    let to_text = cut_size(cut);
-    let to_end = to_text + 8 + digits::places(n);
-    if out.len() < to_end + 1 {
+    let front = cut_line(cut);
+    let size = close(b"records ", n, out, front.len())?;
+    wire::copy_at(front, out, 0);
+    Ok(front.len() + size)
+}
+
+fn cut_line(cut: bool) -> &'static [u8]
+    ensures { result.now ≡ cut_front cut }
+{
+    if cut { b"cut\n" } else { b"" }
+}
+
+// A text, a number and a line feed, from a place on, or none of them.
+#[tactic(auto, using(digits::specs::DigitLaws::places_most))]
+fn close(text: &[u8], n: u64, out: &mut [u8], at: usize) -> Result<usize, Refusal>
+    requires { at ≤ 20 }
+    ensures { PutPromise (closing text.now n) at out.old result out.new }
+{
+    let to_number = at + text.len();
+    let feed = to_number + digits::places(n);
+    if out.len() <= feed {
         return Err(Refusal::BufferTooSmall);
     }
-    wire::copy_at(wire::part(&front, 0, to_text), out, 0);
-    close(&text, n, out, to_text, to_end);
-    Ok(to_end + 1)
-}
-
-fn cut_size(cut: bool) -> usize
-    ensures { CutSizePromise cut result }
-{
-    if cut { 4 } else { 0 }
-}
-
-// A text, a number and a line feed, from a place on.
-fn close(text: &[u8], n: u64, out: &mut [u8], at: usize, feed: usize)
-    requires feed_value { feed ≡ at + length text.now + length (decimal n) }
-    requires feed_in_bounds { feed + 1 ≤ length out.old }
-    ensures { CopyPromise (closing text.now n) out.old at out.new }
-{
-    let end = [b'\n'];
-    let to_number = at + text.len();
     wire::copy_at(text, out, at);
     digits::put_digits(n, out, to_number, feed);
-    wire::copy_at(&end, out, feed);
+    wire::copy_at(b"\n", out, feed);
+    Ok(feed + 1 - at)
 }

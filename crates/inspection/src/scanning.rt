@@ -1,10 +1,9 @@
 // The lines of a buffer's whole records, one behind the other.
-ghost use Rattle.inspection.specs.Scanning.{PutLinePromise, ScanPromise};
+ghost use Rattle.inspection.specs.Scanning.{HandOnPromise, PutLinePromise, ScanPromise};
 
 use crate::lines;
 use frame::Judged;
-use kip::Next;
-use wire::Refusal;
+use wire::{Fault, Refusal};
 
 // How far a buffer's records are handed on, how much of the output is used, and how many records there were.
 #[derive(Clone, Copy)]
@@ -32,41 +31,41 @@ pub struct Scanned {
 pub fn scan(input: &[u8], out: &mut [u8], spot: Spot) -> Scanned
     ensures { ScanPromise input.now out.old spot result out.new }
 {
-    let mut at = spot.at;
-    let mut used = spot.used;
-    let mut n = spot.n;
-    let mut turns = input.len();
-    let stop = loop {
-        if turns == 0 {
-            break Stop::Short;
+    let mut spot = spot;
+    for _ in 0..input.len() {
+        match hand_on(input, out, spot) {
+            Ok(next) => spot = next,
+            Err(stop) => return Scanned { spot, stop },
         }
-        match kip::next_record(input, at) {
-            Next::Short => break Stop::Short,
-            Next::Record { start, end } => {
-                if u64::MAX <= n {
-                    break Stop::Last;
-                }
-                let judged = frame::judge(wire::part(input, start, end));
-                match put_line(n + 1, judged, out, used) {
-                    Err(_) => break Stop::Full,
-                    Ok(size) => {
-                        used += size;
-                        at = end;
-                        n += 1;
-                    }
-                }
-            }
-        }
-        turns -= 1;
-    };
+    }
     Scanned {
-        spot: Spot { at, used, n },
-        stop,
+        spot,
+        stop: Stop::Short,
     }
 }
 
+// Hands on the next record, and says where the scan is then or why it stops.
+fn hand_on(input: &[u8], out: &mut [u8], spot: Spot) -> Result<Spot, Stop>
+    ensures { HandOnPromise input.now out.old spot result out.new }
+{
+    let record = kip::next_record(input, spot.at).ok_or(Stop::Short)?;
+    let n = spot.n.checked_add(1).ok_or(Stop::Last)?;
+    let judged = frame::judge(wire::part(input, record.start, record.end));
+    let size = put_line(n, judged, out, spot.used).or(Err(Stop::Full))?;
+    Ok(Spot {
+        at: record.end,
+        used: spot.used + size,
+        n,
+    })
+}
+
 // A record's line from a place of the output on, or none of it.
-fn put_line(n: u64, judged: Judged, out: &mut [u8], at: usize) -> Result<usize, Refusal>
+fn put_line(
+    n: u64,
+    judged: Result<Judged, Fault>,
+    out: &mut [u8],
+    at: usize,
+) -> Result<usize, Refusal>
     ensures { PutLinePromise n judged at out.old result out.new }
 {
     if out.len() < at {

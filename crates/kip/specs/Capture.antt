@@ -1,8 +1,7 @@
 -- 01, "Inspection program": a capture is `KIP`, a 16-bit version 1, then records of a 16-bit length and a datagram. What its records are is said of the whole byte string. Assumes nothing.
-use Rattle.std.specs.Prelude.{ℕ, zero, suc, ◌+◌, ◌≡◌, Bool, false, cond, List, [], ◌∷◌, length, get_or, take, drop, eqb, ltb, leb}
+use Rattle.std.specs.Prelude.{ℕ, zero, suc, ◌+◌, ◌≡◌, Bool, false, cond, List, [], ◌∷◌, length, get_or, take, drop, eqb, ltb, leb, Option, Some, None}
 use Rattle.wire.specs.Layout.{word_at}
-use Rattle.kip.specs.declared.capture.Next.{Next}
-use Rattle.kip.specs.declared.capture.Next.TheVariants.{Record, Short}
+use Rattle.wire.specs.declared.parts.View.{View}
 
 -- `KIP`, version 1; another start is another capture
 abbrev pub starts_by01 : List ℕ → Bool
@@ -47,9 +46,9 @@ unfinished s = unfinished_of (length s) s
 
 -- ---- one at a time
 
--- the record that starts at a place of a buffer
-abbrev pub next_at : List ℕ → ℕ → Next
-next_at s at = cond (whole (drop at s)) (Record (at + 2) (at + 2 + word_at s at)) Short
+-- the datagram of the record that starts at a place of a buffer
+abbrev pub next_at : List ℕ → ℕ → Option View
+next_at s at = cond (whole (drop at s)) (Some (record { start = at + 2; end = at + 2 + word_at s at })) None
 
-abbrev pub NextPromise : List ℕ → ℕ → Next → Type 0
+abbrev pub NextPromise : List ℕ → ℕ → Option View → Type 0
 NextPromise s at r = r ≡ next_at s at

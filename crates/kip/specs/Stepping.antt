@@ -1,5 +1,5 @@
 -- Stepping through a capture: a buffer holds what is read and not yet handed on, records are handed on from it, and it is refilled at any moment by any number of bytes. What is handed on are the records of the whole, in order, and what is left at the end is what they leave. Assumes nothing.
-use Rattle.std.specs.Prelude.{ℕ, zero, suc, ◌+◌, ◌-◌, ◌<◌, ◌≤◌, ◌≡◌, refl, Bool, true, false, cond, List, [], ◌∷◌, ◌++◌, length, get_or, take, drop, ltb, leb}
+use Rattle.std.specs.Prelude.{ℕ, zero, suc, ◌+◌, ◌-◌, ◌<◌, ◌≤◌, ◌≡◌, refl, Bool, true, false, cond, List, [], ◌∷◌, ◌++◌, length, get_or, take, drop, ltb, leb, Option, Some, None}
 use Rattle.std.proofs.Common.{arith, sym, ap, ◌∙◌, append_assoc, append-nil, length-drop, length-append, take-append-drop, drop-drop, le-ltb, le-leb, ltb-false, leb-true, leb-false}
 use Rattle.std.proofs.Math.ListN.{get_or-append}
 use Rattle.std.proofs.lemmas.List.{take-append-le, drop-append-le}
@@ -7,10 +7,10 @@ use Rattle.wire.specs.Clash.{never}
 use Rattle.wire.specs.Layout.{word_of, word_at}
 use Rattle.wire.specs.LayoutLaws.{Bytes}
 use Rattle.wire.specs.Parts.{part_of}
+use Rattle.wire.specs.declared.parts.View.{View}
 use Rattle.wire.specs.PartLaws.{part_is}
 use Rattle.kip.specs.Capture.{whole, first_in, rest_in, records_of, unfinished_of, records, unfinished, NextPromise}
 use Rattle.kip.specs.CaptureLaws.{word_drop}
-use Rattle.kip.specs.declared.capture.Next.TheVariants.{Record, Short}
 
 -- ---- a whole record
 
@@ -70,7 +70,7 @@ pub record Named (s : List ℕ) (at start end : ℕ) : Type 0 where
   pub rest : drop end s ≡ rest_in (drop at s)
 
 -- the part that `next_record` names is the first record of what is not handed on, and its end is where the rest starts
-pub names : (s : List ℕ) (at start end : ℕ) → NextPromise s at (Record start end) → Named s at start end
+pub names : (s : List ℕ) (at start end : ℕ) → NextPromise s at (Some (record { start = start; end = end })) → Named s at start end
 names s at start end p = go (whole (drop at s)) refl p
   where
     there : whole (drop at s) ≡ true → (w : ℕ) → w ≡ word_at s at → start ≡ at + 2 → end ≡ at + 2 + w → Named s at start end
@@ -86,8 +86,10 @@ names s at start end p = go (whole (drop at s)) refl p
           rest = ap (λ (k : ℕ). drop k s) (let z : end ≡ at + (2 + w) = omega arith in z) ∙ sym (drop-drop (2 + w) at s) ∙ ap (λ (k : ℕ). drop (2 + k) (drop at s)) (sym word);
         }
 
-    go : (b : Bool) → whole (drop at s) ≡ b → Record start end ≡ cond b (Record (at + 2) (at + 2 + word_at s at)) Short → Named s at start end
-    go true e q = let a : start ≡ at + 2 = cc in let b : end ≡ at + 2 + word_at s at = cc in there e (word_at s at) refl a b
+    go : (b : Bool) → whole (drop at s) ≡ b → ◌≡◌ {A = Option View} (Some (record { start = start; end = end })) (cond b (Some (record { start = at + 2; end = at + 2 + word_at s at })) None) → Named s at start end
+    go true e q =
+        let v : ◌≡◌ {A = View} (record { start = start; end = end }) (record { start = at + 2; end = at + 2 + word_at s at }) = cc in
+        there e (word_at s at) refl (ap (λ (x : View). x.start) v) (ap (λ (x : View). x.end) v)
     go false e q = never cc
 
 -- ---- the records of a byte string do not depend on the bound of their count

@@ -3,4 +3,4 @@
 
 mod capture;
 
-pub use capture::{Next, START_SIZE, next_record, starts};
+pub use capture::{START_SIZE, next_record, starts};

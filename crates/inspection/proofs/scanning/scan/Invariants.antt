@@ -1,10 +1,7 @@
 -- The invariant: what is still to be scanned from here ends as the whole scan does. Assumes nothing.
-use Rattle.std.proofs.Common.{◌≡◌, length}
+use Rattle.std.proofs.Common.{ℕ, ◌+◌, ◌≡◌, length}
 use Rattle.inspection.specs.Scanning.{scan_of}
 use Rattle.inspection.proofs.scanning.scan.Given as goal
 
-abbrev pub invariant-loop-turns : goal.invariant-loop-turns
-invariant-loop-turns l = (length l.out ≡ length l.initial.out) × (scan_of (length l.input) l.input l.initial.at l.initial.used l.initial.n l.initial.out ≡ scan_of l.turns l.input l.at l.used l.n l.out)
-
-abbrev pub decreases-loop-turns : goal.decreases-loop-turns
-decreases-loop-turns l = l.turns
+abbrev pub invariant-loop : goal.invariant-loop
+invariant-loop l = (k : ℕ) → k + l.counter ≡ length l.input → scan_of (length l.input) l.input l.initial.spot.at l.initial.spot.used l.initial.spot.n l.initial.out ≡ scan_of k l.input l.spot.at l.spot.used l.spot.n l.out
