@@ -1,5 +1,5 @@
 -- "A line: the number of document 01, then the call's values, all in decimal", the lent buffer as far as it was touched, in hex, and the offsets of the refusals. Assumes nothing.
-use Rattle.std.specs.Prelude.{ℕ, zero, suc, ◌+◌, ◌-◌, ◌/◌, ◌%◌, ◌≡◌, cond, List, [], ◌∷◌, ◌++◌, length, get_or, eqb, ltb, leb}
+use Rattle.std.specs.Prelude.{ℕ, zero, suc, ◌+◌, ◌-◌, ◌/◌, ◌%◌, ◌≡◌, cond, List, [], ◌∷◌, ◌++◌, length, get_or, take, fold, map, flat_map, eqb, leb}
 use Rattle.wire.specs.Layout.{copied}
 use Rattle.digits.specs.Digits.{decimal, hex_digit}
 use Rattle.replay.specs.declared.telling.Told.{Told}
@@ -22,32 +22,20 @@ abbrev pub PiecePromise : List ℕ → List ℕ → ℕ → ℕ → List ℕ →
 PiecePromise w out at r after = sheet after r ≡ laid (sheet out at) w
 
 abbrev pub all : Sheet → List (List ℕ) → Sheet
-all s [] = s
-all s (w ∷ ws) = all (laid s w) ws
+all = fold laid
 
 abbrev pub PiecesPromise : List (List ℕ) → List ℕ → ℕ → ℕ → List ℕ → Type 0
 PiecesPromise ws out at r after = sheet after r ≡ all (sheet out at) ws
 
--- the pieces of k things, from the one with number i on
-unfoldable pub pieces : (ℕ → List (List ℕ)) → ℕ → ℕ → List (List ℕ)
-pieces f zero i = []
-pieces f (suc k) i = f i ++ pieces f k (suc i)
-
 -- ---- the values, and the offsets
 
 -- a mark, and a number behind it
-abbrev pub number_pieces : List ℕ → List ℕ → ℕ → List (List ℕ)
-number_pieces mark ns i = mark ∷ decimal (get_or ns i 0) ∷ []
+abbrev pub number_pieces : List ℕ → ℕ → List (List ℕ)
+number_pieces mark n = mark ∷ decimal n ∷ []
 
--- no more than there are
-abbrev pub shown : ℕ → ℕ → ℕ
-shown count most = cond (ltb count most) count most
-
-abbrev pub ShownPromise : ℕ → ℕ → ℕ → Type 0
-ShownPromise count most r = r ≡ shown count most
-
+-- the first `count` of them, and no more than there are
 abbrev pub numbers : List ℕ → List ℕ → ℕ → List (List ℕ)
-numbers mark ns count = pieces (number_pieces mark ns) (shown count (length ns)) 0
+numbers mark ns count = flat_map (number_pieces mark) (take count ns)
 
 -- " 4 21" for 4 and 21
 abbrev pub values : Told → List (List ℕ)
@@ -67,7 +55,7 @@ abbrev pub PatternPromise : ℕ → ℕ → Type 0
 PatternPromise i r = r ≡ pattern i
 
 -- up to the last of k bytes that is not the pattern's
-unfoldable pub touched_in : ℕ → List ℕ → ℕ
+abbrev pub touched_in : ℕ → List ℕ → ℕ
 touched_in zero s = 0
 touched_in (suc k) s = cond (eqb (get_or s k 0) (pattern k)) (touched_in k s) (suc k)
 
@@ -80,12 +68,9 @@ TouchedPromise s r = r ≡ touched s
 abbrev pub hex_byte : ℕ → List ℕ
 hex_byte x = hex_digit (x / 16 % 16) ∷ hex_digit (x % 16) ∷ []
 
-abbrev pub byte_pieces : List ℕ → ℕ → List (List ℕ)
-byte_pieces s i = hex_byte (get_or s i 0) ∷ []
-
 -- " | ", the bytes, "+" and how many follow
 abbrev pub buffer : List ℕ → List (List ℕ)
-buffer s = (32 ∷ 124 ∷ 32 ∷ []) ∷ pieces (byte_pieces s) (touched s) 0 ++ (43 ∷ []) ∷ decimal (length s - touched s) ∷ []
+buffer s = (32 ∷ 124 ∷ 32 ∷ []) ∷ map hex_byte (take (touched s) s) ++ (43 ∷ []) ∷ decimal (length s - touched s) ∷ []
 
 -- ---- the line
 

@@ -1,5 +1,5 @@
 -- What a call told, as it is handed to its line: a number of 01, values, and the offsets of refusals. Assumes nothing.
-use Rattle.std.specs.Prelude.{ℕ, ◌+◌, ◌*◌, ◌%◌, ◌≡◌, Bool, true, false, cond, List, [], ◌∷◌, eqb, ltb, get_or, set, Result, Ok, Err}
+use Rattle.std.specs.Prelude.{ℕ, ◌+◌, ◌*◌, ◌%◌, ◌≡◌, Bool, true, false, cond, List, [], ◌∷◌, ltb, get_or, set, fold, Option, None, Some, Result, Ok, Err}
 use Rattle.wire.specs.Refusals.{number_of}
 use Rattle.wire.specs.Told.{nowhere}
 use Rattle.wire.specs.declared.refusals.Fault.{Fault}
@@ -29,12 +29,13 @@ fallen t at = cond (ltb t.refusals 4)
     (record { number = t.number; count = t.count; values = t.values; lends = t.lends; refusals = t.refusals + 1; offsets = set t.offsets t.refusals at })
     t
 
--- a refusal's number brings one more, and 0 none
-abbrev pub located_at : Told → ℕ → ℕ → Told
-located_at t number at = cond (eqb number 0) t (fallen t at)
+-- a refusal brings one more, at its offset
+abbrev pub located_at : Told → Option Fault → Told
+located_at t None = t
+located_at t (Some fault) = fallen t fault.at
 
-abbrev pub LocatedPromise : Told → ℕ → ℕ → Told → Type 0
-LocatedPromise t number at r = r ≡ located_at t number at
+abbrev pub LocatedPromise : Told → Option Fault → Told → Type 0
+LocatedPromise t refusal r = r ≡ located_at t refusal
 
 abbrev pub FlagPromise : Bool → ℕ → Type 0
 FlagPromise b r = r ≡ cond b 1 0
@@ -59,9 +60,8 @@ abbrev pub WrittenPromise : Result ℕ Refusal → Told → Type 0
 WrittenPromise w r = r ≡ writing w
 
 -- the bytes of a part as one number, behind what was read of it, by 65,521
-unfoldable pub remainder_from : ℕ → List ℕ → ℕ
-remainder_from rest [] = rest
-remainder_from rest (x ∷ s) = remainder_from ((rest * 256 + x) % 65521) s
+abbrev pub remainder_from : ℕ → List ℕ → ℕ
+remainder_from = fold (λ (rest x : ℕ). (rest * 256 + x) % 65521)
 
 abbrev pub RemainderPromise : List ℕ → ℕ → Type 0
 RemainderPromise s r = r ≡ remainder_from 0 s

@@ -1,6 +1,5 @@
 // What a call told.
-ghost use Rattle.std.specs.Prelude.{◌≡◌};
-ghost use Rattle.replay.specs.Telling.{RefusedPromise, FewPromise, LocatedPromise, FlagPromise, MovedPromise, lent, WrittenPromise, RemainderPromise};
+ghost use Rattle.replay.specs.Telling.{RefusedPromise, FewPromise, LocatedPromise, FlagPromise, MovedPromise, WrittenPromise, RemainderPromise};
 
 use wire::{Fault, Refusal};
 
@@ -18,9 +17,8 @@ pub struct Told {
 pub fn refused(fault: Fault, count: usize) -> Told
     ensures { RefusedPromise fault count result }
 {
-    let why = fault.why;
     Told {
-        number: why.number(),
+        number: fault.why.number(),
         count,
         values: [0; 16],
         lends: false,
@@ -33,80 +31,71 @@ pub fn refused(fault: Fault, count: usize) -> Told
 pub fn few(count: usize, four: [usize; 4]) -> Told
     ensures { FewPromise count four result }
 {
+    let mut values = [0; 16];
+    values[..4].copy_from_slice(&four);
     Told {
         number: 0,
         count,
-        values: [
-            four[0], four[1], four[2], four[3], 0, 0, 0, 0, 0, 0, 0, 0, 0, 0, 0, 0,
-        ],
+        values,
         lends: false,
         refusals: 0,
         offsets: [0; 4],
     }
 }
 
-// A number that is a refusal's is told with its offset, behind those that the line tells already. No call has more than four.
-pub fn located(t: Told, number: u8, at: usize) -> Told
-    ensures { LocatedPromise t number at result }
+// A refusal is told with its offset, behind those that the line tells already. No call has more than four.
+pub fn located(t: Told, refusal: Option<Fault>) -> Told
+    ensures { LocatedPromise t refusal result }
 {
-    let n = t.refusals;
-    if number == 0 {
-        return t;
+    let mut told = t;
+    if let Some(fault) = refusal {
+        if told.refusals < 4 {
+            told.offsets[told.refusals] = fault.at;
+            told.refusals += 1;
+        }
     }
-    if n < 4 {
-        let mut more = t;
-        more.offsets[n] = at;
-        more.refusals = n + 1;
-        return more;
-    }
-    t
+    told
 }
 
 pub fn flag(b: bool) -> usize
     ensures { FlagPromise b result }
 {
-    if b { 1 } else { 0 }
+    usize::from(b)
 }
 
 // A place in a part, as a place in the whole; places of a million and more do not occur, and count as 0.
 pub fn moved(start: usize, at: usize) -> usize
     ensures { MovedPromise start at result }
 {
-    if at < 1000000 {
-        if start < 1000000 {
-            return start + at;
-        }
+    if at < 1000000 && start < 1000000 {
+        start + at
+    } else {
+        0
     }
-    0
 }
 
 // What an encoder or a builder answered; its refusal names no field.
 pub fn written(w: Result<usize, Refusal>) -> Told
     ensures { WrittenPromise w result }
 {
-    match w {
-        Ok(n) => lending(few(1, [n, 0, 0, 0])),
-        Err(why) => lending(refused(Fault { why, at: 0 }, 1)),
+    let told = match w {
+        Ok(n) => few(1, [n, 0, 0, 0]),
+        Err(why) => refused(Fault::from(why), 1),
+    };
+    Told {
+        lends: true,
+        ..told
     }
-}
-
-fn lending(t: Told) -> Told
-    ensures { result ≡ lent t }
-{
-    let mut shown = t;
-    shown.lends = true;
-    shown
 }
 
 // A part as one number, of which the remainder is told: the bytes of a part that was handed out, not only where it stands.
 pub fn remainder(part: &[u8]) -> usize
     ensures { RemainderPromise part.now result }
 {
-    let mut rest: usize = 0;
-    let mut i = 0;
-    while i < part.len() {
-        rest = (rest * 256 + wire::byte_at(part, i) as usize) % 65521;
-        i += 1;
-    }
-    rest
+    usize::from(
+        part.iter().fold(
+            0,
+            |rest: u16, x| ((u32::from(rest) * 256 + u32::from(*x)) % 65521) as u16,
+        ),
+    )
 }

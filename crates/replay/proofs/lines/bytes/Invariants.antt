@@ -1,10 +1,7 @@
--- The invariant: the pieces that are still to come make those of all bytes. Assumes nothing.
-use Rattle.std.proofs.Common.{◌≤◌, ◌-◌, ◌≡◌, length}
-use Rattle.replay.specs.Lines.{sheet, all, pieces, byte_pieces}
+-- The invariant: what was laid is the pieces of the bytes so far. Assumes nothing.
+use Rattle.std.proofs.Common.{◌≡◌, map, take}
+use Rattle.replay.specs.Lines.{sheet, all, hex_byte}
 use Rattle.replay.proofs.lines.bytes.Given as goal
 
-abbrev pub invariant-loop-i : goal.invariant-loop-i
-invariant-loop-i l = (l.i ≤ l.k) × (length l.out ≡ length l.initial.out) × (all (sheet l.out l.to) (pieces (byte_pieces l.buf) (l.k - l.i) l.i) ≡ all (sheet l.initial.out l.at) (pieces (byte_pieces l.buf) l.k 0))
-
-abbrev pub decreases-loop-i : goal.decreases-loop-i
-decreases-loop-i l = l.k - l.i
+abbrev pub invariant-loop-x : goal.invariant-loop-x
+invariant-loop-x l = sheet l.out l.to ≡ all (sheet l.initial.out l.initial.to) (map hex_byte (take l.x-index l.part))

@@ -1,22 +1,22 @@
--- `numbers`: what the loop keeps, and that its contract follows. Assumes nothing.
-use Rattle.std.proofs.Common.{ℕ, arith, sym, ap, ◌∙◌, get_or, rules}
+-- A turn lays the pieces of one number, and all that the loop yields are the first of them. Assumes nothing.
+use Rattle.std.proofs.Common.{flat_map, ap, ◌∙◌, List, ℕ}
+use Rattle.std.proofs.lemmas.List.Sums.{fold-append}
+use Rattle.std.proofs.lemmas.List.{map-append}
+use Rattle.std.proofs.lemmas.Grind.{flat_map-append}
+use Rattle.std.proofs.lemmas.Iterator.{YieldsList-from_take, YieldsList-from_slice}
+use Rattle.std.proofs.lemmas.Iterator.Consumers.{YieldsList-end}
 use Rattle.digits.specs.Digits.{decimal}
-use Rattle.replay.specs.Lines.{Sheet, sheet, laid, all, pieces, number_pieces}
-use Rattle.replay.specs.Laws.{pieces_turn, pieces-done}
+use Rattle.replay.specs.Lines.{Sheet, sheet, laid, all, number_pieces}
 use Rattle.replay.proofs.lines.numbers.Goals as goal
 
-pub loop-i-preserved : goal.loop-i-preserved
-loop-i-preserved c =
-    let o = c.loop-i in
-    let a = c.args in
-    let n = c.shown-n.result in
-    let turn = c.decimal-to.ensures ∙ ap (λ (s : Sheet). laid s (decimal (get_or a.ns.now o.i 0))) c.text-to.ensures in
-    (omega arith, search rules, pieces_turn (number_pieces a.mark.now a.ns.now) n o.i (sheet o.out o.to) _ (omega arith) turn ∙ o.invariant.2)
+pub loop-n-preserved : goal.loop-n-preserved
+loop-n-preserved c =
+    let marked = c.text-to.ensures ∙ ap (λ (s : Sheet). laid s c.args.mark.now) c.loop-n.invariant in
+    simp (map-append, flat_map-append, fold-append) (c.decimal-to.ensures ∙ ap (λ (s : Sheet). laid s (decimal c.in-Some.n.now)) marked)
 
 pub returns : goal.returns
 returns c =
-    let o = c.loop-i in
     let a = c.args in
-    let f = number_pieces a.mark.now a.ns.now in
-    let shown = c.shown-n in
-    sym (pieces-done f shown.result o.i (sheet o.out o.to) (omega arith)) ∙ o.invariant.2 ∙ ap (λ (n : ℕ). all (sheet a.out.now a.at) (pieces f n 0)) shown.ensures
+    let o = c.loop-n in
+    let whole = YieldsList-end (YieldsList-from_take a.count (YieldsList-from_slice a.ns.now cc) cc) o.yielded _ o.yielded_by _ _ c.in-None.is c.next.ensures.steps in
+    o.invariant ∙ ap (λ (ns : List ℕ). all (sheet a.out.now a.at) (flat_map (number_pieces a.mark.now) ns)) whole.0

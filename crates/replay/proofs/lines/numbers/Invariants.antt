@@ -1,10 +1,7 @@
--- The invariant: the pieces that are still to come make those of all numbers. Assumes nothing.
-use Rattle.std.proofs.Common.{◌≤◌, ◌-◌, ◌≡◌, length}
-use Rattle.replay.specs.Lines.{sheet, all, pieces, number_pieces}
+-- The invariant: what was laid is the pieces of the numbers so far. Assumes nothing.
+use Rattle.std.proofs.Common.{◌≡◌, map, flat_map}
+use Rattle.replay.specs.Lines.{sheet, all, number_pieces}
 use Rattle.replay.proofs.lines.numbers.Given as goal
 
-abbrev pub invariant-loop-i : goal.invariant-loop-i
-invariant-loop-i l = (l.i ≤ l.n) × (length l.out ≡ length l.initial.out) × (all (sheet l.out l.to) (pieces (number_pieces l.mark l.ns) (l.n - l.i) l.i) ≡ all (sheet l.initial.out l.at) (pieces (number_pieces l.mark l.ns) l.n 0))
-
-abbrev pub decreases-loop-i : goal.decreases-loop-i
-decreases-loop-i l = l.n - l.i
+abbrev pub invariant-loop-n : goal.invariant-loop-n
+invariant-loop-n l = sheet l.out l.to ≡ all (sheet l.initial.out l.initial.to) (flat_map (number_pieces l.mark) (map (λ y. y.now) l.yielded))

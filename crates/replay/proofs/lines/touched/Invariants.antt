@@ -1,10 +1,7 @@
--- The invariant: what is touched lies in the first k bytes. Assumes nothing.
-use Rattle.std.proofs.Common.{◌≤◌, ◌≡◌, length}
-use Rattle.replay.specs.Lines.{touched_in, touched}
+-- The invariant: so much is touched of the first i bytes. Assumes nothing.
+use Rattle.std.proofs.Common.{◌≡◌, ◌≤◌}
+use Rattle.replay.specs.Lines.{touched_in}
 use Rattle.replay.proofs.lines.touched.Given as goal
 
-abbrev pub invariant-loop-k : goal.invariant-loop-k
-invariant-loop-k l = (l.k ≤ length l.buf) × (touched_in l.k l.buf ≡ touched l.buf)
-
-abbrev pub decreases-loop-k : goal.decreases-loop-k
-decreases-loop-k l = l.k
+abbrev pub invariant-loop-i : goal.invariant-loop-i
+invariant-loop-i l = (l.k ≡ touched_in l.i l.buf) × (l.k ≤ l.i)
