@@ -124,7 +124,7 @@ parse_never_14 s r p q = never_brought (Cemi.checks s) (done (Cemi.code_in s ∷
 pub length_never_14 : (s : List ℕ) (r : Result ℕ Fault) → Cemi.InfoLengthPromise s r → (Cemi.told_length r).number ≡ 14 → ⊥
 length_never_14 s r p q = never_brought (Cemi.checks s) (done (Cemi.info_length s ∷ [])) 14 refl (omega arith) refl (sym (ap (λ (t : Told). t.number) p) ∙ q)
 
-pub service_info_never_14 : (s : List ℕ) (r : Result View Fault) → Cemi.ServiceInfoPromise s r → r.number ≡ 14 → ⊥
+pub service_info_never_14 : (s : List ℕ) (r : Result View Fault) → Cemi.ServiceInfoPromise s r → (Parts.told r).number ≡ 14 → ⊥
 service_info_never_14 s r p q =
     never_brought (Cemi.checks s ++ Cemi.info_check s ∷ []) (viewed (2 + Cemi.info_length s) (length s)) 14 refl (omega arith) refl (sym (ap (λ (t : Told). t.number) p) ∙ q)
 
@@ -133,7 +133,7 @@ as_ldata_never_14 f s r p q =
     never_brought (Cemi.checks s ++ Cemi.ldata_checks f s ++ LData.byte_checks crate_count (Cemi.service_info s)) (done (LData.values_in crate_count (Cemi.service_info s))) 14 refl (omega arith) refl
     (sym (ap (λ (t : Told). t.number) p) ∙ q)
 
-pub info_never_14 : (s : List ℕ) (r : Result View Fault) → Cemi.InfoPromise s r → r.number ≡ 14 → ⊥
+pub info_never_14 : (s : List ℕ) (r : Result View Fault) → Cemi.InfoPromise s r → (Parts.told r).number ≡ 14 → ⊥
 info_never_14 s r p q =
     never_brought (Cemi.checks s ++ Cemi.info_check s ∷ []) (viewed 2 (2 + Cemi.info_length s)) 14 refl (omega arith) refl (sym (ap (λ (t : Told). t.number) p) ∙ q)
 

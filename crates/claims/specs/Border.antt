@@ -1,11 +1,10 @@
 -- The C border, one row for each exported function, a refusal with its offset for each answer that reads, and the table's image: numbers and bytes typed from 01. The arguments and fields of a row differ, so that two exchanged in promise and code alike are found.
-use Rattle.std.specs.Prelude.{ℕ, refl, List, [], ◌∷◌, ◌++◌, replicate, Ok, Err}
+use Rattle.std.specs.Prelude.{ℕ, refl, List, [], ◌∷◌, ◌++◌, replicate, Ok, Err, None}
 use Rattle.wire.specs.declared.refusals.Refusal.TheVariants.{InvalidMessageCode}
 use Rattle.constants.specs.MessageCodes.{message_of}
 use Rattle.pci.specs.PciLaws.{tpci_of}
 use Rattle.tunnel.specs.declared.rules.Wait.TheVariants.{First, Second}
-use Rattle.tunnel_table.specs.declared.places.Hold.TheVariants.{Free, Held}
-use Rattle.tunnel_table.specs.declared.places.Place.{Place}
+use Rattle.tunnel_table.specs.Places.{Place, held}
 use Rattle.tunnel_image.specs.Image as Image
 use Rattle.knx.specs.Reading as KnxReading
 use Rattle.knx.specs.Channel as KnxChannel
@@ -294,9 +293,9 @@ two = image_of (place 0x15 7 3 1) (place 0x16 8 4 2)
 
 abbrev two_places : List Place
 two_places =
-    record { hold = Held 0x15 (record { r = 7; s = 3; w = First }) }
-    ∷ record { hold = Held 0x16 (record { r = 8; s = 4; w = Second }) }
-    ∷ replicate 6 (record { hold = Free })
+    held 0x15 (record { r = 7; s = 3; w = First })
+    ∷ held 0x16 (record { r = 8; s = 4; w = Second })
+    ∷ replicate 6 None
 
 abbrev said : ℕ → KnxCalled
 said n = record { start = 0; end = 0; written = 0; said = n; offset = 0; number = 0 }

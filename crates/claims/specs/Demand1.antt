@@ -1,14 +1,16 @@
 -- Demand 1: a number other than 0 is one of 1 to 14, comes with zeros and an empty view, and changes no lent byte. One theorem for each public function that can refuse, under its name, over the promise that its contract names; at the end the functions that refuse nothing. That nothing faults, wraps or hangs is the gate's verdict on functions without a `requires`.
-use Rattle.std.specs.Prelude.{ℕ, ◌+◌, ◌≡◌, refl, List, [], ◌∷◌, ◌++◌, length, Bool, Result, Err, Option}
-use Rattle.std.proofs.Common.{ap, sym, subst, ◌∙◌}
+use Rattle.std.specs.Prelude.{ℕ, ◌+◌, ◌≡◌, refl, List, [], ◌∷◌, ◌++◌, length, Bool, Result, Err, Option, Ok, IsOk}
+use Rattle.std.proofs.Common.{ap, sym, subst, ◌∙◌, arith}
 use Rattle.wire.specs.Told.{done, refused, viewed, verdict, answer}
 use Rattle.wire.specs.Layout.{get}
 use Rattle.wire.specs.Writing.{WritePromise, Write3Promise, room}
 use Rattle.wire.specs.Writing as Writing
 use Rattle.wire.specs.Parts as Parts
 use Rattle.wire.specs.PartLaws.{shown-refused}
+use Rattle.wire.specs.PartLaws as PartLaws
 use Rattle.wire.specs.declared.refusals.Fault.{Fault}
 use Rattle.wire.specs.declared.refusals.Refusal.{Refusal}
+use Rattle.wire.specs.declared.refusals.Refusal.TheVariants.{AwaitsNothing}
 use Rattle.wire.specs.Told.{Verdict}
 use Rattle.wire.specs.Format.{checks_of}
 use Rattle.wire.specs.Refusing.{Zeros, Refusing, Leaves, refused-zeros, judged-refusing, writes_refusing}
@@ -84,9 +86,9 @@ use Rattle.tunnel_table.specs.Table as Table
 use Rattle.tunnel_table.specs.Compiled as Compiled
 use Rattle.tunnel_table.specs.declared.table.Table.{Table}
 use Rattle.tunnel_table.specs.declared.table.Called.{Called}
-use Rattle.tunnel_table.specs.declared.places.Place.{Place}
-use Rattle.tunnel_model.specs.Table.{empty_of}
-use Rattle.tunnel_table.specs.Places.{kind}
+use Rattle.tunnel_model.specs.Store.{step}
+use Rattle.tunnel_model.specs.Table.{chan, store_of, empty_of}
+use Rattle.tunnel_table.specs.Places.{Place, kind}
 use Rattle.tunnel_image.specs.Image as Image
 use Rattle.knx.specs.Reading as KnxReading
 use Rattle.knx.specs.Channel as KnxChannel
@@ -114,9 +116,13 @@ use Rattle.additional_info.specs.declared.area.AdditionalInfo.{AdditionalInfo}
 
 -- ---- wire
 
--- wire::View::refused
-pub view_refused : (e : Fault) (r : Result View Fault) → Parts.RefusedPromise e r → Zeros (Parts.told r)
-view_refused e r p = rw p (refused-zeros 0 e)
+-- a view that is refused tells its number and zeros
+pub view_refused : (e : Fault) → Zeros (Parts.told (Err e))
+view_refused e = refused-zeros 0 e
+
+-- wire::shown
+pub shown_refused : (s : List ℕ) (e : Fault) (r : List ℕ) → Parts.ShownPromise s (Err e) r → r ≡ []
+shown_refused s e r p = p ∙ PartLaws.part_is s 0 0 (omega arith) (omega arith)
 
 -- wire::write
 pub write : (w b : List ℕ) (r : Result ℕ Refusal) (after : List ℕ) → WritePromise w b r after → Refusing (Writing.told r) × Leaves (Writing.told r) b after
@@ -419,14 +425,14 @@ datagram_hear s r p = HearingLaws.heard-refusing r
 pub datagram_hear_in : (f : Form) (s : List ℕ) (r : Result Heard Fault) → Hearing.HearInPromise f s r → Refusing (Hearing.told r)
 datagram_hear_in f s r p = HearingLaws.heard-refusing r
 
--- ---- tunnel: a refusal is 11, says nothing and leaves the tunnel
+-- ---- tunnel: a refusal is 11, and has nothing beside it: the caller's tunnel, which came by value, is as it was
 
 -- tunnel::Tunnel::timeout
-pub tunnel_timeout : (t : Tunnel) (r : Stepped) → Rules.TimeoutPromise t r → (r.number ≡ 0 → ⊥) → RuleLaws.Unmoved t r
+pub tunnel_timeout : (t : Tunnel) (e : Refusal) → Rules.TimeoutPromise t (Err e) → e ≡ AwaitsNothing
 tunnel_timeout = RuleLaws.timeout_refusing
 
 -- tunnel::Tunnel::acknowledged
-pub tunnel_acknowledged : (t : Tunnel) (n status : ℕ) (r : Stepped) → Rules.AcknowledgedPromise t n status r → r.number ≡ 0
+pub tunnel_acknowledged : (t : Tunnel) (n status : ℕ) (r : Result Stepped Refusal) → Rules.AcknowledgedPromise t n status r → IsOk r
 tunnel_acknowledged = RuleLaws.acknowledged_done
 
 -- ---- kip
@@ -443,7 +449,7 @@ inspection_heading kip out = writes_refusing (room (length (InspectionLines.head
 pub inspection_ending : (n : ℕ) (cut : Bool) (out : List ℕ) (r : Result ℕ Refusal) (after : List ℕ) → InspectionLines.EndingPromise n cut out r after → Refusing (Writing.told r) × Leaves (Writing.told r) out after
 inspection_ending n cut out = writes_refusing (room (length (InspectionLines.ending_of n cut)) (length out) ∷ []) (InspectionLines.ending_of n cut) out
 
--- ---- tunnel_table: the five calls alike; what a refusal leaves is the output and the table
+-- ---- tunnel_table: the five calls alike; a refusal leaves the output, and 01's table stays at the places of the one that was called, which came by value
 
 -- tunnel_table::Table::open
 -- tunnel_table::Table::close
@@ -451,35 +457,29 @@ inspection_ending n cut out = writes_refusing (room (length (InspectionLines.end
 -- tunnel_table::Table::send
 -- tunnel_table::Table::datagram
 -- tunnel_table::Table::datagram_in
-pub table_calls : (t : Table) (c : Call) (r : Called) (after : List ℕ) → CallPromise t c r after → (r.number ≡ 0 → ⊥)
-    → Zeros (Table.told r) × (after ≡ out_of c) × (r.table ≡ t)
+pub table_calls : (t : Table) (c : Call) (e : Fault) (after : List ℕ) → CallPromise t c (Err e) after
+    → Zeros (refused 2 e) × (after ≡ out_of c) × ((step chan (store_of kind) t.places c).1 ≡ t.places)
 table_calls = Compiled.call_refusing
 
 -- tunnel_table::Table::heard
-pub table_heard : (t : Table) (h : Result Heard Fault) (out : List ℕ) (r : Called) (after : List ℕ) → Table.HeardPromise t h out r after → (r.number ≡ 0 → ⊥)
-    → Zeros (Table.told r) × (after ≡ out) × (r.table ≡ t)
+pub table_heard : (t : Table) (h : Result Heard Fault) (out : List ℕ) (e : Fault) (after : List ℕ) → Table.HeardPromise t h out (Err e) after
+    → Zeros (refused 2 e) × (after ≡ out) × ((Table.heard_on h out t.places).1 ≡ t.places)
 table_heard = Compiled.heard-refusing
 
 -- tunnel_table::Table::heard_in
-pub table_heard_in : (f : Form) (t : Table) (h : Result Heard Fault) (out : List ℕ) (r : Called) (after : List ℕ) → Table.HeardInPromise f t h out r after → (r.number ≡ 0 → ⊥)
-    → Zeros (Table.told r) × (after ≡ out) × (r.table ≡ t)
+pub table_heard_in : (f : Form) (t : Table) (h : Result Heard Fault) (out : List ℕ) (e : Fault) (after : List ℕ) → Table.HeardInPromise f t h out (Err e) after
+    → Zeros (refused 2 e) × (after ≡ out) × ((Table.heard_in_on f h out t.places).1 ≡ t.places)
 table_heard_in = Compiled.heard_in_refusing
 
--- ---- borrowed: what is refused by its parse borrows nothing; a record that is refused, by its answer or by the checks that are repeated, hands out nothing, and its view has the number
+-- ---- borrowed: what is refused by its parse is no record, so it borrows nothing; a record that the checks refuse, which are repeated, hands out nothing, and its view has the number
 
 -- borrowed::KnxnetIpFrame::parse
-pub knxnet_ip_parse : (s : List ℕ) (r : KnxnetIpFrame) → KnxnetIpFrame.ParsePromise s r → Refusing (Frame.told r.answer)
-knxnet_ip_parse s r p = frame_parse s r.answer p.1
-
-pub knxnet_ip_borrows : (s : List ℕ) (r : KnxnetIpFrame) (e : Fault) → KnxnetIpFrame.ParsePromise s r → r.answer ≡ Err e → r.«data».now ≡ []
-knxnet_ip_borrows = KnxnetIpFrameLaws.borrows_none
+pub knxnet_ip_parse : (s : List ℕ) (e : Fault) → KnxnetIpFrame.ParsePromise s (Err e) → Refusing (Frame.told (Err e))
+knxnet_ip_parse s e p = frame_parse s (Err e) p
 
 -- borrowed::KnxnetIpFrame::body
-pub knxnet_ip_body : (f : KnxnetIpFrame) (e : Fault) (r : List ℕ) → f.answer ≡ Err e → KnxnetIpFrame.BodyPromise f r → r ≡ []
-knxnet_ip_body = KnxnetIpFrameLaws.body-none
-
-pub knxnet_ip_body_part : (f : KnxnetIpFrame) (v : Result View Fault) (r : List ℕ) → KnxnetIpFrame.BodyViewPromise f.«data».now f.answer v → KnxnetIpFrame.BodyPromise f r → (v.number ≡ 0 → ⊥) → r ≡ []
-knxnet_ip_body_part = KnxnetIpFrameLaws.body_refused
+pub knxnet_ip_body : (f : KnxnetIpFrame) (e : Fault) (r : List ℕ) → KnxnetIpFrame.BodyViewPromise f.«data».now (Ok f.fields) (Err e) → KnxnetIpFrame.BodyPromise f r → r ≡ []
+knxnet_ip_body = KnxnetIpFrameLaws.body_refused
 
 -- borrowed::body_view
 pub knxnet_ip_body_view : (s : List ℕ) (a : Result FrameFields Fault) (r : Result View Fault) → KnxnetIpFrame.BodyViewPromise s a r → Refusing (Parts.told r)
@@ -493,25 +493,19 @@ pub knxnet_ip_body_in : (s r : List ℕ) (e : Refusal) → verdict (Frame.checks
 knxnet_ip_body_in s r e v q = q ∙ shown-refused (Frame.checks (length s) (get Header.fields 0 s)) (viewed 6 (Header.total_in (get Header.fields 0 s))) e s v
 
 -- borrowed::LDataFrame::parse_in
-pub ldata_frame_parse_in : (c : Counting) (s : List ℕ) (r : LDataFrame) → LDataFrame.ParseInPromise c s r → Refusing (LData.told r.answer)
-ldata_frame_parse_in c s r p = ldata_parse_in c s r.answer p.1
-
-pub ldata_frame_borrows : (c : Counting) (s : List ℕ) (r : LDataFrame) (e : Fault) → LDataFrame.ParseInPromise c s r → r.answer ≡ Err e → r.«data».now ≡ []
-ldata_frame_borrows = LDataFrameLaws.borrows_none
+pub ldata_frame_parse_in : (c : Counting) (s : List ℕ) (e : Fault) → LDataFrame.ParseInPromise c s (Err e) → Refusing (LData.told (Err e))
+ldata_frame_parse_in c s e p = ldata_parse_in c s (Err e) p
 
 -- borrowed::LDataFrame::parse
-pub ldata_frame_parse : (s : List ℕ) (r : LDataFrame) → LDataFrame.ParsePromise s r → Refusing (LData.told r.answer)
+pub ldata_frame_parse : (s : List ℕ) (e : Fault) → LDataFrame.ParsePromise s (Err e) → Refusing (LData.told (Err e))
 ldata_frame_parse = ldata_frame_parse_in Crate
 
 -- borrowed::LDataFrame::data_in
-pub ldata_frame_data_of : (c : Counting) (f : LDataFrame) (e : Fault) (r : List ℕ) → f.answer ≡ Err e → LDataFrame.FrameDataInPromise c f r → r ≡ []
-ldata_frame_data_of = LDataFrameLaws.data_none
-
-pub ldata_frame_data_part : (c : Counting) (f : LDataFrame) (v : Result View Fault) (r : List ℕ) → LDataFrame.DataViewInPromise c f.«data».now f.answer v → LDataFrame.FrameDataInPromise c f r → (v.number ≡ 0 → ⊥) → r ≡ []
-ldata_frame_data_part = LDataFrameLaws.data_refused
+pub ldata_frame_data_of : (c : Counting) (f : LDataFrame) (e : Fault) (r : List ℕ) → LDataFrame.DataViewInPromise c f.«data».now (Ok f.fields) (Err e) → LDataFrame.FrameDataInPromise c f r → r ≡ []
+ldata_frame_data_of = LDataFrameLaws.data_refused
 
 -- borrowed::LDataFrame::data
-pub ldata_frame_data : (f : LDataFrame) (e : Fault) (r : List ℕ) → f.answer ≡ Err e → LDataFrame.DataPromise f r → r ≡ []
+pub ldata_frame_data : (f : LDataFrame) (e : Fault) (r : List ℕ) → LDataFrame.DataViewPromise f.«data».now (Ok f.fields) (Err e) → LDataFrame.DataPromise f r → r ≡ []
 ldata_frame_data = ldata_frame_data_of Crate
 
 -- borrowed::data_view_in
@@ -546,16 +540,17 @@ pub knx_frame_parse : (s : List ℕ) (r : KnxFrame) → KnxReading.FramePromise 
 knx_frame_parse s r = judged-refusing (Frame.checks (length s) (get Header.fields 0 s)) (KnxReading.frame_in (get Header.fields 0 s)) (KnxReading.told_frame r) refl
 
 -- knx::knx_hpai_parse
-pub knx_hpai_parse : (s : List ℕ) (r : KnxHpai) → KnxReading.HpaiPromise s r → Refusing (Hpai.told (KnxReading.hpai_answer r))
-knx_hpai_parse s r = hpai_parse s (KnxReading.hpai_answer r)
+pub knx_hpai_parse : (s : List ℕ) (r : KnxHpai) → KnxReading.HpaiPromise s r → Refusing (KnxReading.told_hpai r)
+knx_hpai_parse s r = judged-refusing (Hpai.checks (length s) (get Hpai.fields 0 s)) (done (get Hpai.fields 0 s)) (KnxReading.told_hpai r) refl
 
 -- knx::knx_connect_response
-pub knx_connect_response : (s : List ℕ) (r : KnxConnectResponse) → KnxReading.ConnectResponsePromise s r → Refusing (ConnectResponse.told (KnxReading.response_answer r))
-knx_connect_response s r = connect_response_parse s (KnxReading.response_answer r)
+pub knx_connect_response : (s : List ℕ) (r : KnxConnectResponse) → KnxReading.ConnectResponsePromise s r → Refusing (KnxReading.told_response r)
+knx_connect_response s r p = judged-refusing (ConnectResponse.checks (length s) (get ConnectResponse.fields 0 s)) (done (get ConnectResponse.fields 0 s)) (KnxReading.told_response r) refl p.0
 
 -- knx::knx_connect_response_standard
-pub knx_connect_response_standard : (s : List ℕ) (r : KnxConnectResponse) → KnxReading.ConnectResponseStandardPromise s r → Refusing (ConnectResponse.told (KnxReading.response_answer r))
-knx_connect_response_standard s r = connect_response_parse_standard s (KnxReading.response_answer r)
+pub knx_connect_response_standard : (s : List ℕ) (r : KnxConnectResponse) → KnxReading.ConnectResponseStandardPromise s r → Refusing (KnxReading.told_response r)
+knx_connect_response_standard s r p =
+    judged-refusing (ConnectResponse.knx_checks (length s) (get ConnectResponse.fields 0 s)) (done (ConnectResponse.knx_values (get ConnectResponse.fields 0 s))) (KnxReading.told_response r) refl p.0
 
 -- knx::knx_connectionstate_response
 -- knx::knx_disconnect_response
@@ -563,8 +558,10 @@ pub knx_status : (s : List ℕ) (r : KnxStatus) → KnxChannel.StatusPromise s r
 knx_status s r = judged-refusing (checks_of Channel.status_format (length s) (get Channel.status_fields 0 s)) (done (get Channel.status_fields 0 s)) (KnxChannel.told r) refl
 
 -- knx::knx_disconnect_request_parse
-pub knx_disconnect_request_parse : (s : List ℕ) (r : KnxDisconnectRequest) → KnxChannel.DisconnectRequestPromise s r → Refusing (Channel.told_request (KnxChannel.request_answer r))
-knx_disconnect_request_parse s r = disconnect_request_parse s (KnxChannel.request_answer r)
+pub knx_disconnect_request_parse : (s : List ℕ) (r : KnxDisconnectRequest) → KnxChannel.DisconnectRequestPromise s r → Refusing (KnxChannel.told_request r)
+knx_disconnect_request_parse s r =
+    let vs = get Channel.request_fields 0 s in
+    judged-refusing (checks_of Channel.request_format (length s) vs) (done ((Channel.request_format).values_in vs)) (KnxChannel.told_request r) refl
 
 -- knx::knx_cemi_ldata
 pub knx_cemi_ldata : (s : List ℕ) (r : KnxLData) → CemiLData.CemiLDataPromise s r → Refusing (CemiLData.told r)

@@ -341,23 +341,23 @@ ldata_round_trip b d buf n after f part six q p taken sixth = LDataRoundTrip.rou
 
 -- ---- the records that hold their slice, and the C border, agree with the records below them
 
-pub borrowed_body : (s : List ℕ) (f : KnxnetIpFrame) (r : List ℕ) → KnxnetIpFrame.ParsePromise s f → KnxnetIpFrame.BodyPromise f r → KnxnetIpFrame.BodyInPromise s r
+pub borrowed_body : (s : List ℕ) (f : KnxnetIpFrame) (r : List ℕ) → KnxnetIpFrame.ParsePromise s (Ok f) → KnxnetIpFrame.BodyPromise f r → KnxnetIpFrame.BodyInPromise s r
 borrowed_body = KnxnetIpFrameLaws.body_in
 
 pub borrowed_data : (s : List ℕ) (f : LDataFields) → LData.ParsePromise s (Ok f) → shown s (LData.data_by01 crate_count f s) ≡ LDataFrame.data_in s
 borrowed_data = LDataFrameLaws.fields_data Crate
 
-pub borrowed_record_data : (s : List ℕ) (f : LDataFrame) (r : List ℕ) → LDataFrame.ParsePromise s f → LDataFrame.DataPromise f r → LDataFrame.DataInPromise s r
+pub borrowed_record_data : (s : List ℕ) (f : LDataFrame) (r : List ℕ) → LDataFrame.ParsePromise s (Ok f) → LDataFrame.DataPromise f r → LDataFrame.DataInPromise s r
 borrowed_record_data = LDataFrameLaws.data_in_lem Crate
 
 -- the view of a frame is the one that `FrameFields::body` answers
 pub border_body : (s : List ℕ) (r : KnxFrame) (f : FrameFields) (v : Result View Fault) → KnxReading.FramePromise s r → Frame.ParsePromise s (Ok f) → Frame.BodyPromise f s v
-    → (r.start ≡ v.start) × (r.end ≡ v.end)
+    → v ≡ Ok (record { start = r.start; end = r.end })
 border_body = KnxReadingLaws.body_as
 
 -- the numbers of `knx_cemi_ldata` are those of the records that `parse`, `as_ldata` and `data` answer
-pub border_ldata : (s : List ℕ) (r : KnxLData) (f : CEMIFrame) (g : LDataFields) (v : Result View Fault)
-    → CemiLData.CemiLDataPromise s r → Cemi.ParsePromise s (Ok f) → Cemi.AsLDataPromise f s (Ok g) → LData.DataPromise g (Cemi.service_info s) v
+pub border_ldata : (s : List ℕ) (r : KnxLData) (f : CEMIFrame) (g : LDataFields) (v : View)
+    → CemiLData.CemiLDataPromise s r → Cemi.ParsePromise s (Ok f) → Cemi.AsLDataPromise f s (Ok g) → LData.DataPromise g (Cemi.service_info s) (Ok v)
     → CemiLData.told r ≡ record {
       number = 0;
       values =

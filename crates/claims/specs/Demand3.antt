@@ -1,5 +1,5 @@
 -- Demand 3, of the compiled table: tunnels in one table do not disturb each other. Calls carry raw datagrams and whole lent outputs; whose call it is, is computed from the bytes; a trace has number, what is said, count, view, offset, the whole output, and what is left of the channel.
-use Rattle.std.specs.Prelude.{ℕ, ◌+◌, ◌≤◌, ◌≡◌, refl, List, [], length, get_or, drop, Ok, None, Some}
+use Rattle.std.specs.Prelude.{ℕ, ◌+◌, ◌≤◌, ◌≡◌, refl, List, [], length, get_or, drop, Ok, None, Some, Result}
 use Rattle.std.proofs.Common.{arith, sym, ap, subst, ◌∙◌}
 use Rattle.wire.specs.Parts.{part_of}
 use Rattle.tunnel_datagram.specs.Hearing.{cemi_start, heard_by01}
@@ -23,10 +23,9 @@ use Rattle.tunnel_model.specs.Opening.{OpenSays}
 use Rattle.tunnel_model.specs.Opening as Opening
 use Rattle.tunnel_model.specs.RunLaws as RunLaws
 use Rattle.tunnel_model.specs.Exchange as Exchange
-use Rattle.tunnel_table.specs.Places.{kind, kind_laws}
+use Rattle.tunnel_table.specs.Places.{Place, kind, kind_laws}
 use Rattle.tunnel_table.specs.Table.{EmptyPromise, CallPromise}
 use Rattle.tunnel_table.specs.Compiled as Compiled
-use Rattle.tunnel_table.specs.declared.places.Place.{Place}
 use Rattle.tunnel_table.specs.declared.table.Table.{Table}
 use Rattle.tunnel_table.specs.declared.table.Called.{Called}
 use Rattle.tunnel_image.specs.Image.{unpacked}
@@ -37,6 +36,7 @@ use Rattle.knx.specs.CalledLaws.{empty_is}
 use Rattle.knx.specs.Runs as KnxRuns
 use Rattle.knx.specs.declared.building.KnxWritten.{KnxWritten}
 use Rattle.knx.specs.declared.called.KnxCalled.{KnxCalled}
+use Rattle.wire.specs.declared.refusals.Fault.{Fault}
 
 -- ---- the table
 
@@ -89,10 +89,10 @@ module _ (start : Table) (begun : EmptyPromise start) (before : List Call) (gs :
   compiled_no_difference = RunLaws.run_no_difference chan (table_of kind 8) Compiled.Given Compiled.given_as start.places begun before gs ran isolates
 
   -- an opening of B, which is not open, is refused exactly if eight other ids are open, and else starts B afresh
-  pub compiled_opens : (t : Table) (r : Called) (b : ℕ) → t.places ≡ here → CallPromise t (Open b) r [] → (table_of kind 8).look b here ≡ None
-      → Opening chan (table_of kind 8) 8 b here (Open b) (Compiled.given_as (r, []))
+  pub compiled_opens : (t : Table) (r : Result Called Fault) (b : ℕ) → t.places ≡ here → CallPromise t (Open b) r [] → (table_of kind 8).look b here ≡ None
+      → Opening chan (table_of kind 8) 8 b here (Open b) (Compiled.given_as (t, r, []))
   compiled_opens t r b at p e =
-      RunLaws.run-opens chan (table_of kind 8) Compiled.Given Compiled.given_as start.places begun before gs ran 8 opens (Open b) (r, []) b
+      RunLaws.run-opens chan (table_of kind 8) Compiled.Given Compiled.given_as start.places begun before gs ran 8 opens (Open b) (t, r, []) b
       (p ∙ ap (λ (l : List Place). (table_of kind 8).step l (Open b)) at) refl refl e
 
   -- no id is open twice

@@ -27,8 +27,7 @@ use Rattle.tunnel_model.specs.FirstLaws.{clash, none_some}
 use Rattle.tunnel_model.specs.Store.{Machine, Seen, Isolates, Others, Opens}
 use Rattle.tunnel_model.specs.Calls.{Call, Open, Close, Timeout, Send, Datagram, DatagramIn, Outcome, out_of, refuses, says}
 use Rattle.tunnel_model.specs.Table.{chan, empty_of, table_of}
-use Rattle.tunnel_table.specs.Places.{kind}
-use Rattle.tunnel_table.specs.declared.places.Place.{Place}
+use Rattle.tunnel_table.specs.Places.{Place, kind}
 use Rattle.additional_info.specs.Area.{Info}
 use Rattle.additional_info.specs.Area as Area
 use Rattle.additional_info.specs.AppendingLaws as AppendingLaws

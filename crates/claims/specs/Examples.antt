@@ -15,8 +15,7 @@ use Rattle.tunnel.specs.Numbers.{said_of}
 use Rattle.tunnel_model.specs.Calls.{Call, Open, Close, Timeout, Send, Datagram, refuses, says}
 use Rattle.tunnel_model.specs.Lone.{arrived}
 use Rattle.tunnel_model.specs.Table.{chan, table_of}
-use Rattle.tunnel_table.specs.Places.{kind}
-use Rattle.tunnel_table.specs.declared.places.Place.{Place}
+use Rattle.tunnel_table.specs.Places.{Place, kind}
 use Rattle.claims.specs.Demand3.{isolates}
 
 -- a request of a channel with a number and the cEMI bytes 29 00, and one byte more that the total length leaves out

@@ -1,12 +1,11 @@
 -- The inspection of a capture: stepping through it hands on its records, wherever its buffer is refilled, what the program's turns write is what 01 says, its calls are such turns, and 01's example, by computation.
-use Rattle.std.specs.Prelude.{ℕ, ◌+◌, ◌≤◌, ◌<◌, ◌≡◌, refl, Bool, true, false, List, [], ◌∷◌, ◌++◌, length, take, drop, replicate, Ok}
+use Rattle.std.specs.Prelude.{ℕ, ◌+◌, ◌≤◌, ◌<◌, ◌≡◌, refl, Bool, true, false, List, [], ◌∷◌, ◌++◌, length, take, drop, replicate, Ok, Some, Err}
 use Rattle.std.proofs.Common.{arith}
 use Rattle.wire.specs.LayoutLaws.{Bytes}
 use Rattle.kip.specs.Capture.{starts_by01, whole, records_of, unfinished_of, NextPromise}
 use Rattle.kip.specs.CaptureLaws as CaptureLaws
 use Rattle.kip.specs.Stepping.{Move, Named, HandedOn, begun, ran}
 use Rattle.kip.specs.Stepping as Stepping
-use Rattle.kip.specs.declared.capture.Next.TheVariants.{Record}
 use Rattle.digits.specs.Digits.{digits_of, decimal, hex_digit, read_from, tens, hex_value}
 use Rattle.digits.specs.DigitLaws as DigitLaws
 use Rattle.inspection.specs.Lines.{heading_of, line_of, ending_of, EndingPromise}
@@ -23,13 +22,14 @@ use Rattle.inspection.specs.declared.scanning.Spot.{Spot}
 use Rattle.inspection.specs.declared.scanning.Scanned.{Scanned}
 use Rattle.inspection.specs.declared.scanning.Stop.TheVariants.{Short}
 use Rattle.inspection.specs.declared.turns.Progress.{Progress}
+use Rattle.wire.specs.declared.refusals.Refusal.TheVariants.{InvalidFrame}
 
 -- whatever moves hand on records and read on: when all is read and no whole record is left, the records of the whole were handed on, in order, and what is left is the unfinished one
 pub hands_on : (s : List ℕ) (ms : List Move) → (ran (begun s) ms).ahead ≡ [] → whole (ran (begun s) ms).unread ≡ false → HandedOn s (ran (begun s) ms)
 hands_on = Stepping.hands_on
 
 -- and the part that `next_record` names is the record that such a move hands on
-pub names : (s : List ℕ) (at start end : ℕ) → NextPromise s at (Record start end) → Named s at start end
+pub names : (s : List ℕ) (at start end : ℕ) → NextPromise s at (Some (record { start = start; end = end })) → Named s at start end
 names = Stepping.names
 
 -- where no whole record is left, the buffer of 131,072 bytes has room, so that a read which brings nothing is the capture's end
@@ -158,10 +158,10 @@ turns = to_no_room ++ WriteOut ∷ ScanOn ∷ []
 
 pub record InTurns : Type 0 where
   pub no_room : unread (inspecting 5 unfinished (replicate 12 0) to_no_room) ≡ 0x00 ∷ 0x06 ∷ second ++ 0x00 ∷ []
-  pub first_written : (inspecting 5 unfinished (replicate 12 0) turns).written ≡ heading_of true ++ line_of 1 (record { number = 0; service = 0x0421; total = 11; offset = 0 })
-  pub second-gathered : gathered (inspecting 5 unfinished (replicate 12 0) turns) ≡ line_of 2 (record { number = 2; service = 0; total = 0; offset = 4 })
+  pub first_written : (inspecting 5 unfinished (replicate 12 0) turns).written ≡ heading_of true ++ line_of 1 (Ok (record { service = 0x0421; total = 11 }))
+  pub second-gathered : gathered (inspecting 5 unfinished (replicate 12 0) turns) ≡ line_of 2 (Err (record { why = InvalidFrame; at = 4 }))
   pub all-output : output (inspecting 5 unfinished (replicate 12 0) turns) ≡ printed_by01 unfinished
-  pub all_lines : printed_by01 unfinished ≡ heading_of true ++ line_of 1 (record { number = 0; service = 0x0421; total = 11; offset = 0 }) ++ line_of 2 (record { number = 2; service = 0; total = 0; offset = 4 }) ++ ending_of 2 true
+  pub all_lines : printed_by01 unfinished ≡ heading_of true ++ line_of 1 (Ok (record { service = 0x0421; total = 11 })) ++ line_of 2 (Err (record { why = InvalidFrame; at = 4 })) ++ ending_of 2 true
 
 pub in_turns : InTurns
 unfolding records_of unfinished_of digits_of scan_of

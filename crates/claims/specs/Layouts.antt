@@ -51,9 +51,9 @@ pub record Endpoints : Type 0 where
   pub header_encode : Header.EncodePromise header nines (Ok 6) (header_bytes ++ 9 ∷ 9 ∷ 9 ∷ [])
   pub body-length : Header.BodyLengthPromise header 527
   pub body_length_below : Header.BodyLengthPromise (record { header_length = 6; protocol_version = 0x10; service_type = TunnellingRequest; total_length = 5 }) 0
-  pub hpai_parse : Hpai.ParsePromise (endpoint_bytes ++ 0xEE ∷ []) (record { number = 0; hpai = endpoint; offset = 0 })
+  pub hpai_parse : Hpai.ParsePromise (endpoint_bytes ++ 0xEE ∷ []) (Ok endpoint)
   pub hpai_encode : Hpai.EncodePromise endpoint nines (Ok 8) (endpoint_bytes ++ 9 ∷ [])
-  pub hpai_protocol : Hpai.ParsePromise other_bytes (record { number = 0; hpai = other; offset = 0 })
+  pub hpai_protocol : Hpai.ParsePromise other_bytes (Ok other)
   pub hpai_protocol_encode : Hpai.EncodePromise other nines (Ok 8) (other_bytes ++ 9 ∷ [])
   -- a tunnel (4) on the link layer (2); the reserved byte is not looked at
   pub cri_encode : Cri.EncodePromise (record { connection_type = 4; knx_layer = 2 }) nines (Ok 4) (0x04 ∷ 0x04 ∷ 0x02 ∷ 0x00 ∷ 9 ∷ 9 ∷ 9 ∷ 9 ∷ 9 ∷ [])
@@ -96,11 +96,7 @@ pub record Connecting : Type 0 where
   pub disconnect_response : Channel.DisconnectParsePromise (0x15 ∷ 0x21 ∷ 0xEE ∷ []) (Ok (record { channel_id = 0x15; status = 0x21 }))
   -- channel, status, data endpoint, four bytes of data
   pub connect_response : ConnectResponse.ParsePromise (0x15 ∷ 0x00 ∷ endpoint_bytes ++ 0x04 ∷ 0x05 ∷ 0x11 ∷ 0x0A ∷ [])
-      (record {
-        number = 0;
-        response = record { channel_id = 0x15; status = 0; data_endpoint = endpoint; crd = 0x04 ∷ 0x05 ∷ 0x11 ∷ 0x0A ∷ [] };
-        offset = 0;
-      })
+      (Ok (record { channel_id = 0x15; status = 0; data_endpoint = endpoint; crd = 0x04 ∷ 0x05 ∷ 0x11 ∷ 0x0A ∷ [] }))
 
 pub connecting : Connecting
 connecting = record {

@@ -20,8 +20,7 @@ use Rattle.tunnel.specs.Numbers.{said_of}
 use Rattle.tunnel_model.specs.Calls.{Datagram, refuses_at}
 use Rattle.tunnel_model.specs.Lone.{lone}
 use Rattle.tunnel_model.specs.Table.{chan, store_of}
-use Rattle.tunnel_table.specs.Places.{kind}
-use Rattle.tunnel_table.specs.declared.places.Place.{Place}
+use Rattle.tunnel_table.specs.Places.{Place, kind}
 use Rattle.claims.specs.Examples.{request, room}
 
 abbrev as_frame : List ℕ → ℕ

@@ -77,12 +77,12 @@ taken-control = LDataBuilderLaws.control-accepted
 
 -- ---- in either count: the record that holds its data, and the border
 
-pub borrowed_data : (c : Counting) (s : List ℕ) (f : LDataFrame) (r : List ℕ) → LDataFrame.ParseInPromise c s f → LDataFrame.FrameDataInPromise c f r → LDataFrame.DataInCountPromise c s r
+pub borrowed_data : (c : Counting) (s : List ℕ) (f : LDataFrame) (r : List ℕ) → LDataFrame.ParseInPromise c s (Ok f) → LDataFrame.FrameDataInPromise c f r → LDataFrame.DataInCountPromise c s r
 borrowed_data = LDataFrameLaws.data_in_lem
 
 -- the numbers of `knx_cemi_ldata_standard` are those of the records that `parse`, `as_ldata_in` and `data_in` answer
-pub border : (s : List ℕ) (r : KnxLData) (f : CEMIFrame) (g : LDataFields) (v : Result View Fault)
-    → CemiLData.CemiLDataStandardPromise s r → Cemi.ParsePromise s (Ok f) → Cemi.AsLDataInPromise Standard f s (Ok g) → LData.DataInPromise Standard g (Cemi.service_info s) v
+pub border : (s : List ℕ) (r : KnxLData) (f : CEMIFrame) (g : LDataFields) (v : View)
+    → CemiLData.CemiLDataStandardPromise s r → Cemi.ParsePromise s (Ok f) → Cemi.AsLDataInPromise Standard f s (Ok g) → LData.DataInPromise Standard g (Cemi.service_info s) (Ok v)
     → CemiLData.told r ≡ record {
       number = 0;
       values =
@@ -139,7 +139,7 @@ in_cemi f s = (Cemi.as_ldata_in standard_count f s).number
 pub record Frames : Type 0 where
   -- a switch, and 21.00 degrees, in their cEMI frames
   pub switch : Cemi.AsLDataInPromise Standard indication (0x29 ∷ 0x00 ∷ to_group 1 (0x00 ∷ 0x81 ∷ [])) (Ok (group_write 1))
-  pub switch_data : LData.DataInPromise Standard (group_write 1) (to_group 1 (0x00 ∷ 0x81 ∷ [])) (record { number = 0; start = 9; end = 9; offset = 0 })
+  pub switch_data : LData.DataInPromise Standard (group_write 1) (to_group 1 (0x00 ∷ 0x81 ∷ [])) (Ok (record { start = 9; end = 9 }))
   pub switch_six : Application.SixBitPromise 0x81 1
   pub reading : Cemi.AsLDataInPromise Standard indication (0x29 ∷ 0x00 ∷ to_group 3 (0x00 ∷ 0x80 ∷ 0x0C ∷ 0x1A ∷ [])) (Ok (group_write 3))
   pub reading_data : LData.DataPartInPromise Standard (group_write 3) (to_group 3 (0x00 ∷ 0x80 ∷ 0x0C ∷ 0x1A ∷ [])) (0x0C ∷ 0x1A ∷ [])

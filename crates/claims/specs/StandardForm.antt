@@ -99,8 +99,8 @@ refusal_reads_back = ConnectResponseLaws.bare_back
 pub response_has_layout : (s : List ℕ) (c : ConnectResponse) → Bytes s → ConnectResponse.ParseStandardPromise s (Ok c) → c.status ≡ 0 → take 14 s ≡ ConnectResponse.layout c
 response_has_layout = ConnectResponseLaws.knx_has_layout
 
-pub refusal_has_layout : (s : List ℕ) (r : Result ConnectResponse Fault) → ConnectResponse.ParseStandardPromise s r → (r.response.status ≡ 0 → ⊥)
-    → take 2 s ≡ put (byte ∷ byte ∷ []) (r.response.channel_id ∷ r.response.status ∷ [])
+pub refusal_has_layout : (s : List ℕ) (c : ConnectResponse) → ConnectResponse.ParseStandardPromise s (Ok c) → (c.status ≡ 0 → ⊥)
+    → take 2 s ≡ put (byte ∷ byte ∷ []) (c.channel_id ∷ c.status ∷ [])
 refusal_has_layout = ConnectResponseLaws.bare_has_layout
 
 -- ---- disconnecting, where the gateway asks for it
@@ -295,7 +295,7 @@ pub record Sessions : Type 0 where
   -- 1.1.5
   pub own_address : ConnectResponse.IndividualAddressPromise (record { channel_id = 0x15; status = 0; data_endpoint = record { structure_length = 8; host_protocol = 1; ip_address = 192 ∷ 168 ∷ 1 ∷ 100 ∷ []; port = 3671 }; crd = 0x04 ∷ 0x04 ∷ 0x11 ∷ 0x05 ∷ [] }) (record { 0 = 0x1105 })
   -- a disconnect request: fewer than 10 (1), then the endpoint's length (2); the reserved byte is not looked at
-  pub ended : Channel.DisconnectRequestParsePromise (asks_to_end 0xFF (endpoint 8)) (record { number = 0; request = record { channel_id = 0x15; control_endpoint = record { structure_length = 8; host_protocol = 1; ip_address = 192 ∷ 168 ∷ 1 ∷ 100 ∷ []; port = 3671 } }; offset = 0 })
+  pub ended : Channel.DisconnectRequestParsePromise (asks_to_end 0xFF (endpoint 8)) (Ok (record { channel_id = 0x15; control_endpoint = record { structure_length = 8; host_protocol = 1; ip_address = 192 ∷ 168 ∷ 1 ∷ 100 ∷ []; port = 3671 } }))
   pub ended_of_9 : ends (asks_to_end 0 (take 7 (endpoint 8))) ≡ refused 8 (short 9)
   pub ended-length : ends (asks_to_end 0 (endpoint 9)) ≡ refused 8 (record { why = InvalidFrame; at = 2 })
   pub ended_of_9_length : ends (asks_to_end 0 (take 7 (endpoint 9))) ≡ refused 8 (short 9)

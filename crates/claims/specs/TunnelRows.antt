@@ -1,5 +1,5 @@
 -- 01, "Tunnel table": its answers as rows, on the lone tunnel, on the empty table, and on tables that no calls reach.
-use Rattle.std.specs.Prelude.{ℕ, ◌≡◌, refl, Bool, true, List, [], ◌∷◌, replicate, Some}
+use Rattle.std.specs.Prelude.{ℕ, ◌≡◌, refl, Bool, true, List, [], ◌∷◌, replicate, Some, None}
 use Rattle.wire.specs.Told.{done}
 use Rattle.wire.specs.declared.refusals.Refusal.TheVariants.{BufferTooSmall, NotOpen, AwaitsAck, AwaitsNothing}
 use Rattle.tunnel.specs.declared.rules.Wait.{Wait}
@@ -11,9 +11,7 @@ use Rattle.tunnel.specs.Numbers.{said_of}
 use Rattle.tunnel_model.specs.Calls.{Call, Open, Close, Timeout, Send, Datagram, Outcome, refuses_at, refuses, says}
 use Rattle.tunnel_model.specs.Lone.{lone}
 use Rattle.tunnel_model.specs.Table.{chan, store_of, empty_of}
-use Rattle.tunnel_table.specs.Places.{kind}
-use Rattle.tunnel_table.specs.declared.places.Hold.TheVariants.{Free, Held}
-use Rattle.tunnel_table.specs.declared.places.Place.{Place}
+use Rattle.tunnel_table.specs.Places.{Place, kind, held}
 use Rattle.claims.specs.Examples.{request, ack, room}
 
 -- what a call on a table gives, and its number alone
@@ -33,7 +31,7 @@ closes w c = is_none (lone (record { r = 0; s = 0; w = w }) c).1
 
 -- a place that holds a channel as it is opened
 abbrev holding : ℕ → Place
-holding b = record { hold = Held b (record { r = 0; s = 0; w = Idle }) }
+holding b = held b (record { r = 0; s = 0; w = Idle })
 
 -- tables that no calls reach: 21 stands twice; and seven ids fill eight places
 abbrev twice : List Place
@@ -77,7 +75,7 @@ pub record TunnelRows : Type 0 where
   pub timeout_closed : on_empty (Timeout 21) ≡ 9
   pub request_closed : (on (empty_of kind 8) (Datagram (request 21 0) room)).0 ≡ refuses_at (record { why = NotOpen; at = 7 }) room
   -- an id that stands twice means its first place: closed once, it is still open
-  pub twice_closed : (on twice (Close 21)).1 ≡ record { hold = Free } ∷ holding 21 ∷ []
+  pub twice_closed : (on twice (Close 21)).1 ≡ None ∷ holding 21 ∷ []
   pub twice_still_open : (on (on twice (Close 21)).1 (Open 21)).0.0.number ≡ 7
   -- 8 means that no place is free, although seven other ids are open
   pub seven_ids : (on crowded (Open 8)).0.0.number ≡ 8

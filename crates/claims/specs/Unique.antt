@@ -1,9 +1,9 @@
 -- "What a contract has to settle": no second answer. One theorem for each public function, under its name, over the promise that its `ensures` cites: two answers, or two answers with their lent slices, that meet the promise on the same inputs are equal. A part that is handed out is settled by its bytes.
-use Rattle.std.specs.Prelude.{ℕ, ◌≡◌, List, ◌++◌, [], Bool, Result}
+use Rattle.std.specs.Prelude.{ℕ, ◌≡◌, List, ◌++◌, [], Bool, Option, None, Some, Result}
 use Rattle.wire.specs.Refusals.{NumberPromise}
 use Rattle.wire.specs.Layout.{WordPromise, HighPromise, LowPromise, ByteAtPromise, WordAtPromise, CopyPromise}
 use Rattle.wire.specs.Writing.{WritePromise, Write3Promise}
-use Rattle.wire.specs.Parts.{RefusedPromise, PartPromise}
+use Rattle.wire.specs.Parts.{PartPromise, ShownPromise}
 use Rattle.wire.specs.ToldLaws.{same}
 use Rattle.wire.specs.WritingLaws.{write_one}
 use Rattle.wire.specs.PartLaws as PartLaws
@@ -150,13 +150,13 @@ Lent₄ {A} {B} {C} {D} {R} P = (a : A) → Lent₃ (P a)
 pub refusal-number : One NumberPromise
 refusal-number e r q = same
 
--- wire::View::refused
-pub view_refused : One RefusedPromise
-view_refused e r q a b = PartLaws.told_one r q (same a b)
-
 -- wire::part
 pub part : One₃ PartPromise
 part s a e r q = same
+
+-- wire::shown
+pub shown_part : One₂ ShownPromise
+shown_part s v r q = same
 
 -- wire::word
 pub word : One₂ WordPromise
@@ -796,8 +796,8 @@ tunnel_acknowledged t n status r q = same
 pub table_empty : (r q : Table) → EmptyPromise r → EmptyPromise q → r ≡ q
 table_empty = Compiled.empty_one
 
-abbrev pub OneCall : (Table → Called → List ℕ → Type 0) → Type 0
-OneCall P = (t : Table) (r q : Called) (after later : List ℕ) → P t r after → P t q later → (r ≡ q) × (after ≡ later)
+abbrev pub OneCall : (Table → Result Called Fault → List ℕ → Type 0) → Type 0
+OneCall P = (t : Table) (r q : Result Called Fault) (after later : List ℕ) → P t r after → P t q later → (r ≡ q) × (after ≡ later)
 
 -- tunnel_table::Table::open
 pub table_open : (id : ℕ) → OneCall (λ t. CallPromise t (Open id))
@@ -816,12 +816,12 @@ pub table_send : (id : ℕ) (cemi out : List ℕ) → OneCall (λ t. CallPromise
 table_send id cemi out t = Compiled.call_one t (Send id cemi out)
 
 -- tunnel_table::Table::heard
-pub table_heard : (t : Table) (h : Result Heard Fault) (out : List ℕ) (r q : Called) (after later : List ℕ) → HeardPromise t h out r after → HeardPromise t h out q later → (r ≡ q) × (after ≡ later)
-table_heard t h out = Compiled.called_one (heard_on h out t.places)
+pub table_heard : (t : Table) (h : Result Heard Fault) (out : List ℕ) (r q : Result Called Fault) (after later : List ℕ) → HeardPromise t h out r after → HeardPromise t h out q later → (r ≡ q) × (after ≡ later)
+table_heard t h out = Compiled.called_one (heard_on h out t.places) t
 
 -- tunnel_table::Table::heard_in
-pub table_heard_in : (f : Form) (t : Table) (h : Result Heard Fault) (out : List ℕ) (r q : Called) (after later : List ℕ) → HeardInPromise f t h out r after → HeardInPromise f t h out q later → (r ≡ q) × (after ≡ later)
-table_heard_in f t h out = Compiled.called_one (heard_in_on f h out t.places)
+pub table_heard_in : (f : Form) (t : Table) (h : Result Heard Fault) (out : List ℕ) (r q : Result Called Fault) (after later : List ℕ) → HeardInPromise f t h out r after → HeardInPromise f t h out q later → (r ≡ q) × (after ≡ later)
+table_heard_in f t h out = Compiled.called_one (heard_in_on f h out t.places) t
 
 -- tunnel_table::Table::datagram_in
 pub table_datagram_in : (f : Form) (bytes out : List ℕ) → OneCall (λ t. CallPromise t (DatagramIn f bytes out))
@@ -896,7 +896,7 @@ inspection_ending = InspectionLinesLaws.ending_one
 -- ---- borrowed: the bytes that a record borrows, and those that it hands out, are settled by its bytes
 
 -- borrowed::KnxnetIpFrame::parse
-pub knxnet_ip_parse : (s : List ℕ) (r q : KnxnetIpFrame) → KnxnetIpFrame.ParsePromise s r → KnxnetIpFrame.ParsePromise s q → (r.«data».now ≡ q.«data».now) × (r.answer ≡ q.answer)
+pub knxnet_ip_parse : (s : List ℕ) (r q : Result KnxnetIpFrame Fault) → KnxnetIpFrame.ParsePromise s r → KnxnetIpFrame.ParsePromise s q → KnxnetIpFrameLaws.Alike r q
 knxnet_ip_parse = KnxnetIpFrameLaws.parse_one
 
 -- borrowed::KnxnetIpFrame::body
@@ -912,11 +912,11 @@ pub knxnet_ip_body_in : One KnxnetIpFrame.BodyInPromise
 knxnet_ip_body_in s r q = same
 
 -- borrowed::LDataFrame::parse_in
-pub ldata_frame_parse_in : (c : Counting) (s : List ℕ) (r q : LDataFrame) → LDataFrame.ParseInPromise c s r → LDataFrame.ParseInPromise c s q → (r.«data».now ≡ q.«data».now) × (r.answer ≡ q.answer)
+pub ldata_frame_parse_in : (c : Counting) (s : List ℕ) (r q : Result LDataFrame Fault) → LDataFrame.ParseInPromise c s r → LDataFrame.ParseInPromise c s q → LDataFrameLaws.Alike r q
 ldata_frame_parse_in = LDataFrameLaws.parse_one
 
 -- borrowed::LDataFrame::parse
-pub ldata_frame_parse : (s : List ℕ) (r q : LDataFrame) → LDataFrame.ParsePromise s r → LDataFrame.ParsePromise s q → (r.«data».now ≡ q.«data».now) × (r.answer ≡ q.answer)
+pub ldata_frame_parse : (s : List ℕ) (r q : Result LDataFrame Fault) → LDataFrame.ParsePromise s r → LDataFrame.ParsePromise s q → LDataFrameLaws.Alike r q
 ldata_frame_parse = LDataFrameLaws.parse_one Crate
 
 -- borrowed::LDataFrame::data_in
@@ -1095,8 +1095,8 @@ pub replay_refused : One₂ Telling.RefusedPromise
 replay_refused why count r q = same
 
 -- replay::located
-pub replay_located : One₃ Telling.LocatedPromise
-replay_located t number at r q = same
+pub replay_located : One₂ Telling.LocatedPromise
+replay_located t refusal r q = same
 
 -- replay::few
 pub replay_few : One₂ Telling.FewPromise
@@ -1127,8 +1127,9 @@ pub replay_number24 : One Records.Number24Promise
 replay_number24 s r q = same
 
 -- replay::next
-pub replay_next : (r : Record) (args buf after later : List ℕ) → Records.NextPromise r args buf after → Records.NextPromise r args buf later → after ≡ later
-replay_next r args buf after later p q = same p.filled q.filled
+pub replay_next : (r : Option Record) (args buf after later : List ℕ) → Records.NextPromise r args buf after → Records.NextPromise r args buf later → after ≡ later
+replay_next None args buf after later p q = same p q
+replay_next (Some r) args buf after later p q = same p.filled q.filled
 
 -- ---- variants: the numbers that recorded calls have for them
 

@@ -39,17 +39,18 @@ use Rattle.tunnel_datagram.specs.Hearing.{cemi_start, heard_or, heard_in, heard_
 use Rattle.tunnel_datagram.specs.Order as Order
 use Rattle.tunnel_datagram.specs.declared.hearing.Heard.{Heard}
 use Rattle.tunnel_datagram.specs.declared.hearing.Heard.TheVariants.{Request, Ack}
-use Rattle.tunnel.specs.Rules.{arrival_of}
+use Rattle.tunnel.specs.Rules.{arrival_of, acknowledged_of}
 use Rattle.tunnel.specs.declared.rules.Tunnel.{Tunnel}
 use Rattle.tunnel.specs.declared.rules.Arrival.{Arrival}
 use Rattle.tunnel.specs.declared.rules.Arrival.TheVariants.{Deliver, Duplicate, OutOfOrder}
 use Rattle.tunnel_model.specs.Calls.{DatagramIn, Datagram, Close, refuses_at}
-use Rattle.tunnel_model.specs.Lone.{After, or_refused, arrived, heard, lone}
+use Rattle.tunnel_model.specs.Lone.{After, stepped, or_refused, arrived, heard, lone}
 use Rattle.tunnel_model.specs.Store.{step}
 use Rattle.tunnel_model.specs.Table.{chan, store_of, empty_of}
 use Rattle.tunnel_table.specs.Places.{kind}
 use Rattle.claims.specs.Examples.{request}
 use Rattle.claims.specs.StandardCount.{indication, to_group, group_write}
+use Rattle.tunnel.specs.declared.rules.Stepped.{Stepped}
 
 -- ---- a part that starts later adds its own start
 
@@ -141,9 +142,13 @@ arrived-nowhere f Deliver t channel n end out = or_nowhere (verdict (build_check
 arrived-nowhere f Duplicate t channel n end out = or_nowhere (verdict (build_checks (form_by f) (length out))) out t _ refl
 arrived-nowhere f OutOfOrder t channel n end out = refl
 
+stepped-nowhere : (t : Tunnel) (r : Result Stepped Refusal) (out : List ℕ) → (stepped t r out).0.0.offset ≡ 0
+stepped-nowhere t (Ok s) out = refl
+stepped-nowhere t (Err e) out = refl
+
 heard_offset : (f : Form) (t : Tunnel) (h : Result Heard Fault) (out : List ℕ) → (heard f t h out).0.0.offset ≡ offset_of h
 heard_offset f t (Ok (Request channel n end)) out = arrived-nowhere f (arrival_of t n) t channel n end out
-heard_offset f t (Ok (Ack channel n status)) out = refl
+heard_offset f t (Ok (Ack channel n status)) out = stepped-nowhere t (acknowledged_of t n status) out
 heard_offset f t (Err e) out = refl
 
 -- whatever state the tunnel is in and whatever output it is lent; in a table B's calls get the lone tunnel's outcome, of which the offset is part (`Demand3.isolates`)
@@ -196,7 +201,7 @@ pub record Rows : Type 0 where
   pub made-header : Frame.HeaderPromise (made 0x10) (replicate 5 0) (Err (at BufferTooSmall 5))
   pub made_service : Frame.ServiceTypePromise (made 0x20) (replicate 6 0) (Err (at UnsupportedVersion 1))
   pub made-body : Frame.BodyPromise (record { header = record { header_length = 6; protocol_version = 0x10; service_type = TunnellingRequest; total_length = 7 } }) (replicate 6 0)
-      (record { number = 2; start = 0; end = 0; offset = 4 })
+      (Err (at InvalidFrame 4))
   -- an Hpai and request information: 1 at the end, 2 at 0
   pub hpai-short : Hpai.parse_where (0x08 ∷ replicate 6 0) ≡ refused 7 (at BufferTooSmall 7)
   pub hpai-length : Hpai.parse_where (0x09 ∷ replicate 7 0) ≡ refused 7 (at InvalidFrame 0)
@@ -208,7 +213,7 @@ pub record Rows : Type 0 where
   pub status-short : Channel.StateParsePromise (0x15 ∷ []) (Err (at BufferTooSmall 1))
   -- bodies that are too short: at their end, not at the length that they need
   pub connection-short : Connection.DecodePromise (0x04 ∷ 0x15 ∷ 0x07 ∷ []) (Err (at BufferTooSmall 3))
-  pub cemi_data_short : TunnelingRequest.CemiDataPromise (0x04 ∷ []) (record { number = 1; start = 0; end = 0; offset = 1 })
+  pub cemi_data_short : TunnelingRequest.CemiDataPromise (0x04 ∷ []) (Err (at BufferTooSmall 1))
   pub ack-short : TunnelingAck.ParsePromise (0x04 ∷ 0x15 ∷ 0x07 ∷ 0x00 ∷ []) (Err (at BufferTooSmall 4))
   -- cEMI: 1 at its end, 6 at 0, the additional length's 2 at 1, also past the end of the area
   pub cemi-short : Cemi.ParsePromise (0x29 ∷ []) (Err (at BufferTooSmall 1))
@@ -228,9 +233,9 @@ pub record Rows : Type 0 where
   pub standard_L0 : LData.ParseInPromise Standard (to_group 0 (0x00 ∷ 0x81 ∷ [])) (Err (at InvalidFrame 6))
   pub standard_L2 : LData.ParseInPromise Standard (to_group 2 (0x00 ∷ 0x81 ∷ [])) (Err (at InvalidFrame 6))
   -- the data of records that no parse made, one with its slice and one that holds its data alone
-  pub made_data_short : LData.DataPromise (group_write 2) (replicate 8 0) (record { number = 1; start = 0; end = 0; offset = 8 })
-  pub made_data_L : LData.DataPromise (group_write 1) (replicate 9 0) (record { number = 2; start = 0; end = 0; offset = 6 })
-  pub borrowed_L : LDataFrame.BorrowedViewPromise Standard [] (group_write 2) (record { number = 2; start = 0; end = 0; offset = 6 })
+  pub made_data_short : LData.DataPromise (group_write 2) (replicate 8 0) (Err (at BufferTooSmall 8))
+  pub made_data_L : LData.DataPromise (group_write 1) (replicate 9 0) (Err (at InvalidFrame 6))
+  pub borrowed_L : LDataFrame.BorrowedViewPromise Standard [] (group_write 2) (Err (at InvalidFrame 6))
   -- a datagram: 12 at 2; a body that is too short at the total length, not at the datagram's; 9 at 7
   pub other_service : heard_by01 (0x06 ∷ 0x10 ∷ 0x02 ∷ 0x06 ∷ 0x00 ∷ 0x06 ∷ []) ≡ Err (at NotForTunnels 2)
   pub request-short : heard_by01 (six 6 0x10 6 ++ 0xFF ∷ []) ≡ Err (at BufferTooSmall 6)
