@@ -19,7 +19,7 @@ impl AdditionalInfo {
     pub fn parse(area: &[u8]) -> Result<Option<AdditionalInfo>, Fault>
         ensures { ParsePromise area.now result }
     {
-        if area.len() == 0 {
+        if area.is_empty() {
             return Ok(None);
         }
         match taken(area) {
@@ -139,16 +139,11 @@ fn record_at(area: &[u8], at: usize) -> AdditionalInfo
 fn timestamp_of(code: u8, data: &[u8]) -> Option<u32>
     ensures { TimestampPromise code «data».now result }
 {
-    if code == 0x04 {
-        if data.len() == 2 {
-            return Some(wire::word_at(data, 0) as u32);
-        }
-        return None;
+    match (code, data.len()) {
+        (0x04, 2) => Some(u32::from(wire::word_at(data, 0))),
+        (0x06, 4) => Some(
+            u32::from(wire::word_at(data, 0)) * 65536 + u32::from(wire::word_at(data, 2)),
+        ),
+        _ => None,
     }
-    if code == 0x06 {
-        if data.len() == 4 {
-            return Some(wire::word_at(data, 0) as u32 * 65536 + wire::word_at(data, 2) as u32);
-        }
-    }
-    None
 }

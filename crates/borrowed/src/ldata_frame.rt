@@ -84,8 +84,7 @@ pub fn data_view_in(
 fn borrowed_view(counting: Counting, data: &[u8], frame: LDataFields) -> Result<View, Fault>
     ensures { BorrowedViewPromise counting «data».now frame result }
 {
-    let tpci = frame.tpci;
-    let is_data = tpci.is_data();
+    let is_data = frame.tpci.is_data();
     let start = ldata::data_start(is_data);
     let end = counting.data_end(frame.npdu_length);
     let fault = Fault {

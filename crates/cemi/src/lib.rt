@@ -125,8 +125,7 @@ impl CEMIFrame {
         ensures { BuildPromise self additional_info.now service_info.now buf.old result buf.new }
     {
         additional_info::judge(additional_info, 0)?;
-        let message_code = self.message_code;
-        let head = [message_code.to_u8(), additional_info.len() as u8];
+        let head = [self.message_code.to_u8(), additional_info.len() as u8];
         wire::write3(&head, additional_info, service_info, buf)
     }
 }

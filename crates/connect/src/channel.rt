@@ -50,11 +50,10 @@ impl ConnectionStateRequest {
     pub fn build(self, buf: &mut [u8]) -> Result<usize, Refusal>
         ensures { StateBuildPromise self buf.old result buf.new }
     {
-        let control_endpoint = self.control_endpoint;
         request(
             ServiceType::ConnectionstateRequest,
             self.channel_id,
-            control_endpoint,
+            self.control_endpoint,
             buf,
         )
     }
@@ -88,11 +87,10 @@ impl DisconnectRequest {
     pub fn build(self, buf: &mut [u8]) -> Result<usize, Refusal>
         ensures { DisconnectBuildPromise self buf.old result buf.new }
     {
-        let control_endpoint = self.control_endpoint;
         request(
             ServiceType::DisconnectRequest,
             self.channel_id,
-            control_endpoint,
+            self.control_endpoint,
             buf,
         )
     }

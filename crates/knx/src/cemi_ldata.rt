@@ -71,19 +71,16 @@ fn read(counting: Counting, data: &[u8], fields: LDataFields) -> KnxLData
     let kind = pci::kind_in(tpci);
     let is_data = kind < 2;
     let service = service_in(counting, is_data, tpci, wire::byte_at(rest, 8));
-    let ctrl1 = fields.ctrl1;
-    let ctrl2 = fields.ctrl2;
-    let source = fields.source;
     KnxLData {
         offset: 0,
         start: base + ldata::data_start(is_data),
         end: base + counting.data_end(fields.npdu_length),
-        source: source.to_u16(),
+        source: fields.source.to_u16(),
         destination: fields.destination_raw,
         apci_code: service.apci_code,
         message_code: wire::byte_at(data, 0),
-        control_1: ctrl1.to_u8(),
-        control_2: ctrl2.to_u8(),
+        control_1: fields.ctrl1.to_u8(),
+        control_2: fields.ctrl2.to_u8(),
         npdu_length: fields.npdu_length,
         tpci_kind: kind,
         tpci_sequence: pci::sequence_in(tpci),
@@ -126,10 +123,7 @@ fn service_in(counting: Counting, is_data: bool, first: u8, second: u8) -> Servi
 fn named(first: u8, second: u8) -> u8
     ensures { result ≡ named_in first second }
 {
-    if pci::is_named_in(first, second) {
-        return 1;
-    }
-    0
+    u8::from(pci::is_named_in(first, second))
 }
 
 // The crate's count has none.

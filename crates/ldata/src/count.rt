@@ -77,10 +77,7 @@ fn standard_allows(is_data: bool, npdu_length: u8) -> bool
     ensures { result ≡ standard_allows is_data npdu_length }
 {
     if is_data {
-        if npdu_length < 1 {
-            return false;
-        }
-        return npdu_length <= 254;
+        return 1 <= npdu_length && npdu_length <= 254;
     }
     npdu_length == 0
 }

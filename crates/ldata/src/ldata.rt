@@ -66,8 +66,7 @@ impl LDataFields {
     pub fn data_in(self, counting: Counting, data: &[u8]) -> Result<View, Fault>
         ensures { DataInPromise counting self «data».now result }
     {
-        let tpci = self.tpci;
-        let is_data = tpci.is_data();
+        let is_data = self.tpci.is_data();
         stands(counting, data.len(), is_data, self.npdu_length)?;
         Ok(View {
             start: data_start(is_data),
@@ -90,8 +89,7 @@ impl LDataFields {
     pub fn destination_group(self) -> Option<GroupAddress>
         ensures { DestinationGroupPromise self result }
     {
-        let ctrl2 = self.ctrl2;
-        if ctrl2.is_group_address() {
+        if self.ctrl2.is_group_address() {
             return Some(GroupAddress::from_u16(self.destination_raw));
         }
         None
@@ -100,8 +98,7 @@ impl LDataFields {
     pub fn destination_individual(self) -> Option<IndividualAddress>
         ensures { DestinationIndividualPromise self result }
     {
-        let ctrl2 = self.ctrl2;
-        if ctrl2.is_group_address() {
+        if self.ctrl2.is_group_address() {
             return None;
         }
         Some(IndividualAddress::from_u16(self.destination_raw))
@@ -110,22 +107,19 @@ impl LDataFields {
     pub fn is_group_write(self) -> bool
         ensures { IsServicePromise 0x080 self result }
     {
-        let apci = self.apci;
-        apci.is_named(0x080)
+        self.apci.is_named(0x080)
     }
 
     pub fn is_group_read(self) -> bool
         ensures { IsServicePromise 0x000 self result }
     {
-        let apci = self.apci;
-        apci.is_named(0x000)
+        self.apci.is_named(0x000)
     }
 
     pub fn is_group_response(self) -> bool
         ensures { IsServicePromise 0x040 self result }
     {
-        let apci = self.apci;
-        apci.is_named(0x040)
+        self.apci.is_named(0x040)
     }
 }
 

@@ -101,7 +101,7 @@ impl Tunnel {
         if number == self.r {
             return Arrival::Deliver;
         }
-        if number == std::num::wrapping_sub_u8(self.r, 1) {
+        if number == self.r.wrapping_sub(1) {
             return Arrival::Duplicate;
         }
         Arrival::OutOfOrder
@@ -112,7 +112,7 @@ impl Tunnel {
         ensures { DeliveredPromise self result }
     {
         let mut t = self;
-        t.r = std::num::wrapping_add_u8(self.r, 1);
+        t.r = self.r.wrapping_add(1);
         t
     }
 
@@ -133,7 +133,7 @@ impl Tunnel {
             Said::Sent,
             Tunnel {
                 r: self.r,
-                s: std::num::wrapping_add_u8(self.s, 1),
+                s: self.s.wrapping_add(1),
                 w: Wait::Idle,
             },
         ))

@@ -5,26 +5,26 @@ ghost use Rattle.wire.specs.Layout.{WordPromise, HighPromise, LowPromise, ByteAt
 pub fn word(first: u8, second: u8) -> u16
     ensures { WordPromise first second result }
 {
-    (first as u16) * 256 + (second as u16)
+    u16::from_be_bytes([first, second])
 }
 
 pub fn high(n: u16) -> u8
     ensures { HighPromise n result }
 {
-    (n / 256) as u8
+    n.to_be_bytes()[0]
 }
 
 pub fn low(n: u16) -> u8
     ensures { LowPromise n result }
 {
-    (n % 256) as u8
+    n.to_be_bytes()[1]
 }
 
 // The byte at a place; 0 past the end.
 pub fn byte_at(s: &[u8], at: usize) -> u8
     ensures { ByteAtPromise s.now at result }
 {
-    if at < s.len() { s[at] } else { 0 }
+    s.get(at).copied().unwrap_or(0)
 }
 
 // The number of the two bytes at a place; a byte past the end counts as 0.

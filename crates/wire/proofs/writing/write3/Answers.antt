@@ -1,26 +1,26 @@
 -- Each piece is copied right behind what stands. Assumes nothing.
-use Rattle.std.proofs.Common.{ℕ, arith, ap, sym, [], ◌∷◌, ◌++◌, length, lt-ltb, le-ltb}
+use Rattle.std.proofs.Common.{ℕ, ◌+◌, ◌<◌, List, arith, ap, sym, [], ◌∷◌, ◌++◌, length, lt-ltb, le-ltb}
+use Rattle.std.specs.Prelude.{Err}
 use Rattle.wire.specs.Told.{done}
+use Rattle.wire.specs.Writing.{Write3Promise}
+use Rattle.wire.specs.declared.refusals.Refusal.TheVariants.{BufferTooSmall}
 use Rattle.wire.specs.LayoutLaws.{length_three, copied_three}
 use Rattle.wire.proofs.writing.write3.Goals as goal
 
+-- a buffer shorter than the three together
+short : (a b c buf : List ℕ) → length buf < length a + length b + length c → Write3Promise a b c buf (Err BufferTooSmall) buf
+short a b c buf h =
+    let asked = lt-ltb (length buf) (length (a ++ b ++ c)) (omega (arith, length_three a b c)) in
+    (simp asked, simp asked)
+
 pub returns-then-buf-a : goal.returns-then-buf-a
-returns-then-buf-a c =
-    let a = c.args in
-    let h = lt-ltb (length a.buf.now) (length (a.a.now ++ a.b.now ++ a.c.now)) (omega (arith, length_three a.a.now a.b.now a.c.now)) in
-    (simp h, simp h)
+returns-then-buf-a c = short c.args.a.now c.args.b.now c.args.c.now c.args.buf.now (omega arith)
 
 pub returns-then-buf-a-2 : goal.returns-then-buf-a-2
-returns-then-buf-a-2 c =
-    let a = c.args in
-    let h = lt-ltb (length a.buf.now) (length (a.a.now ++ a.b.now ++ a.c.now)) (omega (arith, length_three a.a.now a.b.now a.c.now)) in
-    (simp h, simp h)
+returns-then-buf-a-2 c = short c.args.a.now c.args.b.now c.args.c.now c.args.buf.now (omega arith)
 
 pub returns-then-buf-a-3 : goal.returns-then-buf-a-3
-returns-then-buf-a-3 c =
-    let a = c.args in
-    let h = lt-ltb (length a.buf.now) (length (a.a.now ++ a.b.now ++ a.c.now)) (omega (arith, length_three a.a.now a.b.now a.c.now)) in
-    (simp h, simp h)
+returns-then-buf-a-3 c = short c.args.a.now c.args.b.now c.args.c.now c.args.buf.now (omega arith)
 
 pub returns : goal.returns
 returns c =
