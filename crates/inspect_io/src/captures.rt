@@ -37,12 +37,7 @@ impl<'a, F: Read> Capture<'a, F> {
     pub(crate) fn print(&mut self, rt: &HostRuntime) -> Result<(), Unwritten> {
         match self.read_start(rt) {
             Ok(progress) => self.inspect(rt, progress),
-            Err(
-                Stopped {
-                    why: Why::Unread,
-                    ..
-                },
-            ) => Ok(()),
+            Err(stopped) if matches!(stopped.why, Why::Unread) => Ok(()),
             Err(stopped) => self.inspect(rt, stopped.progress),
         }
     }
