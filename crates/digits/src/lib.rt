@@ -18,6 +18,7 @@ pub fn put_digits(n: u64, out: &mut [u8], at: usize, end: usize)
         return;
     }
     let mut rest = n;
+    // By index: of what is written through `iter_mut().rev()` a proof knows no element.
     for i in (at..end).rev() {
         out[i] = b'0' + (rest % 10) as u8;
         rest /= 10;

@@ -22,13 +22,14 @@ abbrev pub came : Result Progress Stopped → ℕ → Type 0
 came (Ok p) k = 1 ≤ k
 came (Err s) k = came_at s.why k
 
--- some bytes came behind those that were there, which are as before
-pub record ReadMore (input : List ℕ) (p : Progress) (after : List ℕ) (r : Result Progress Stopped) : Type 0 where
+-- some bytes came behind those that were there, which are as before, and so are the lines that are gathered
+pub record ReadMore (input out : List ℕ) (p : Progress) (after later : List ℕ) (r : Result Progress Stopped) : Type 0 where
   pub count : ℕ
   pub same_before : take p.have after ≡ take p.have input
   pub room : p.have + count ≤ length after
   pub onward : ReadOnPromise after p count (stands r)
   pub brought : came r count
+  pub same_out : later ≡ out
 
 -- before the first record nothing is handed on
 abbrev pub StartPromise : List ℕ → Progress → Type 0

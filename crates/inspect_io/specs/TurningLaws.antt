@@ -18,9 +18,9 @@ module _ (input out : List ℕ) (p : Progress) (x : Reached input out p) where
   write_turns (Err s) q = (subst (Reached input out) (sym (ap (λ (a : Stopped). a.progress) q)) x, λ e. let w : s.why ≡ Unwritten = ap (λ (a : Stopped). a.why) q in never cc)
 
   -- a read behind the last whole record
-  pub read_turns : (after : List ℕ) (r : Result Progress Stopped) → ReadMore input p after r → whole (rest_in input p) ≡ false → TurnPromise after out r
-  read_turns after r q short = (
-    read_reaches input out p x after q.count q.same_before q.room (stands r) q.onward,
+  pub read_turns : (after later : List ℕ) (r : Result Progress Stopped) → ReadMore input out p after later r → whole (rest_in input p) ≡ false → TurnPromise after later r
+  read_turns after later r q short = (
+    subst (λ (o : List ℕ). Reached after o (stands r)) (sym q.same_out) (read_reaches input out p x after q.count q.same_before q.room (stands r) q.onward),
     go r q.onward q.brought,
   )
     where

@@ -42,7 +42,7 @@ impl<F: Read> Capture<'_, F> {
         progress: Progress,
     ) -> Result<Progress, Stopped>
         requires { progress.have ≤ length self.old.input }
-        ensures { ReadMore self.old.input progress self.new.input result }
+        ensures { ReadMore self.old.input self.old.out progress self.new.input self.new.out result }
     {
         match self.file.read(&mut self.input[progress.have..]) {
             Ok(0) => Err(Stopped {

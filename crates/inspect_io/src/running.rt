@@ -1,7 +1,7 @@
 // The captures that the program is asked for, one after the other.
 ghost use Rattle.inspect_io.specs.Running.{RunPromise};
 
-use crate::captures::{Capture, INPUT_SIZE};
+use crate::captures::Capture;
 use crate::printing;
 use crate::printing::Unwritten;
 use std::env::{Env, FillError};
@@ -15,10 +15,9 @@ const NAME_SIZE: usize = 4096;
 pub fn run(rt: &HostRuntime)
     ensures { RunPromise result }
 {
-    let mut out = [0u8; 65536];
-    let mut name = [0u8; NAME_SIZE];
+    let mut name = [0; NAME_SIZE];
     let _ = match rt.arg(1, &mut name) {
-        Err(FillError::NotPresent) => standard_input(rt, &mut out),
+        Err(FillError::NotPresent) => standard_input(rt),
         Ok(k) if &name[..k] == b"--help".as_slice() => {
             printing::told(
                 rt,
@@ -26,16 +25,16 @@ pub fn run(rt: &HostRuntime)
             );
             Ok(())
         }
-        _ => arguments(rt, &mut out),
+        _ => arguments(rt),
     };
 }
 
 // One name after the other, unless nothing more can be written. A name that is longer than a path may be is none.
-fn arguments(rt: &HostRuntime, out: &mut [u8]) -> Result<(), Unwritten> {
-    let mut name = [0u8; NAME_SIZE];
+fn arguments(rt: &HostRuntime) -> Result<(), Unwritten> {
+    let mut name = [0; NAME_SIZE];
     for i in 1..usize::MAX {
         match rt.arg(i, &mut name) {
-            Ok(k) => named(rt, &name[..k], out)?,
+            Ok(k) => named(rt, &name[..k])?,
             Err(FillError::TooLong) => printing::told(rt, b"argument: File name too long\n"),
             Err(FillError::NotPresent) => break,
         }
@@ -44,21 +43,14 @@ fn arguments(rt: &HostRuntime, out: &mut [u8]) -> Result<(), Unwritten> {
 }
 
 // A file, whose name is printed first; `-` is standard input.
-fn named(rt: &HostRuntime, name: &[u8], out: &mut [u8]) -> Result<(), Unwritten> {
+fn named(rt: &HostRuntime, name: &[u8]) -> Result<(), Unwritten> {
     printing::printed(rt, name)?;
     printing::printed(rt, b":\n")?;
     if name == b"-".as_slice() {
-        return standard_input(rt, out);
+        return standard_input(rt);
     }
     match open(rt, name) {
-        Ok(mut file) => {
-            let mut capture = Capture {
-                file: &mut file,
-                name,
-                input: [0; INPUT_SIZE],
-            };
-            capture.print(rt, out)
-        }
+        Ok(mut file) => Capture::new(&mut file, name).print(rt),
         Err(error) => {
             printing::fail(rt, name, error);
             Ok(())
@@ -66,14 +58,8 @@ fn named(rt: &HostRuntime, name: &[u8], out: &mut [u8]) -> Result<(), Unwritten>
     }
 }
 
-fn standard_input(rt: &HostRuntime, out: &mut [u8]) -> Result<(), Unwritten> {
-    let mut stdin = rt.stdin();
-    let mut capture = Capture {
-        file: &mut stdin,
-        name: b"standard input",
-        input: [0; INPUT_SIZE],
-    };
-    capture.print(rt, out)
+fn standard_input(rt: &HostRuntime) -> Result<(), Unwritten> {
+    Capture::new(&mut rt.stdin(), b"standard input").print(rt)
 }
 
 // std opens a file by its name in UTF-8, so a name in no UTF-8 is refused as one that no file has.

@@ -12,13 +12,13 @@ use std::io::Read;
 
 impl<F: Read> Capture<'_, F> {
     // Every turn reads or writes a byte at least, so no capture is long enough to meet this count.
-    pub(crate) fn turns(&mut self, rt: &HostRuntime, out: &mut [u8], progress: Progress) -> Stopped
-        requires { Reached self.old.input out.old progress }
-        ensures { TurnPromise self.new.input out.new (Err result) }
+    pub(crate) fn turns(&mut self, rt: &HostRuntime, progress: Progress) -> Stopped
+        requires { Reached self.old.input self.old.out progress }
+        ensures { TurnPromise self.new.input self.new.out (Err result) }
     {
         let mut progress = progress;
         for _ in 0..u64::MAX {
-            match self.turn(rt, out, progress) {
+            match self.turn(rt, progress) {
                 Ok(next) => progress = next,
                 Err(stopped) => return stopped,
             }
@@ -30,23 +30,18 @@ impl<F: Read> Capture<'_, F> {
     }
 
     // Scans, and writes what is gathered where a line has no room; else moves what is left to the front and reads on.
-    fn turn(
-        &mut self,
-        rt: &HostRuntime,
-        out: &mut [u8],
-        progress: Progress,
-    ) -> Result<Progress, Stopped>
-        requires { Reached self.old.input out.old progress }
-        ensures { TurnPromise self.new.input out.new result }
+    fn turn(&mut self, rt: &HostRuntime, progress: Progress) -> Result<Progress, Stopped>
+        requires { Reached self.old.input self.old.out progress }
+        ensures { TurnPromise self.new.input self.new.out result }
     {
         let read = wire::part(&self.input, 0, progress.have);
-        let scanned = inspection::scan(read, out, progress.spot);
+        let scanned = inspection::scan(read, &mut self.out, progress.spot);
         let handed = Progress {
             spot: scanned.spot,
             ..progress
         };
         match scanned.stop {
-            Stop::Full => write_out(rt, out, handed),
+            Stop::Full => write_out(rt, &self.out, handed),
             Stop::Last => Err(Stopped {
                 progress: handed,
                 why: Why::TooLong,

@@ -1,4 +1,4 @@
--- A line is its parts, each copied right behind what stands; no second answer. Assumes nothing.
+-- A line is its parts, each copied to its place; no second answer. Assumes nothing.
 use Rattle.std.specs.Prelude.{ℕ, ◌+◌, ◌-◌, ◌<◌, ◌≤◌, ◌≡◌, refl, List, [], ◌∷◌, ◌++◌, length, take, drop, get_or, ltb, Bool, true, false, Result, Ok, Err}
 use Rattle.std.proofs.Common.{arith, sym, ap, ◌∙◌, append_assoc, length-append, length-take-le, drop_at, lt-ltb, le-ltb, ltb-true, ltb-false}
 use Rattle.std.proofs.lemmas.Bool.{lt-leb}
@@ -46,7 +46,7 @@ was_full w out at e p = go (ltb (length out) (at + length w)) refl
         let q : Err e ≡ Ok tt = sym (was_refused cs (done (length w ∷ [])) 1 (nowhere e) refl p) ∙ ap (λ (b : Bool). verdict (b ⇒ BufferTooSmall ∷ [])) f in
         never cc
 
--- a front of as many bytes, copied before it, makes the whole line
+-- what is put behind room for a front, and the front copied before it, are the whole line
 module _ (front w out : List ℕ) (at : ℕ) (a : at ≡ length front) where
   both : length (front ++ w) ≡ at + length w
   both = omega (arith, length-append front w)

@@ -1,4 +1,4 @@
--- A move to the front, byte by byte, and what is known after it and after a read. Assumes nothing.
+-- What is read and not handed on, as a part of the buffer. Assumes nothing.
 use Rattle.std.specs.Prelude.{ℕ, ◌+◌, ◌-◌, ◌≤◌, ◌≡◌, List, length, take, drop}
 use Rattle.std.proofs.Common.{arith, sym, ap, ◌∙◌, take-add, drop_at, length-take-le}
 use Rattle.wire.specs.Parts.{part_of}

@@ -1,11 +1,10 @@
 -- What the first bytes say of a capture's start, and where the next record of a buffer stands. Assumes nothing.
-use Rattle.std.specs.Prelude.{ℕ, ◌+◌, ◌-◌, ◌<◌, ◌≤◌, ◌≡◌, refl, Bool, true, false, cond, List, ◌++◌, length, get_or, drop, eqb, ltb, leb}
-use Rattle.std.proofs.Common.{arith, add-zero, ap, ◌∙◌, length-drop, length-append, get_or-drop, lt-ltb, le-ltb, le-leb, ltb-false}
+use Rattle.std.specs.Prelude.{ℕ, ◌≤◌, ◌≡◌, refl, Bool, true, false, cond, List, ◌++◌, length, get_or, drop, eqb, ltb}
+use Rattle.std.proofs.Common.{arith, add-zero, ap, ◌∙◌, length-append, get_or-drop, le-ltb, ltb-false}
 use Rattle.std.proofs.Math.ListN.{get_or-append}
-use Rattle.std.proofs.lemmas.Bool.{lt-leb}
 use Rattle.wire.specs.Clash.{never}
 use Rattle.wire.specs.Layout.{word_of, word_at}
-use Rattle.kip.specs.Capture.{starts_by01, whole}
+use Rattle.kip.specs.Capture.{starts_by01}
 
 -- ---- the start
 
@@ -35,18 +34,3 @@ pub word_drop : (s : List ℕ) (at : ℕ) → word_at (drop at s) 0 ≡ word_at 
 word_drop s at =
     ap (λ (x : ℕ). word_of x (get_or (drop at s) 1 0)) (get_or-drop at s 0 0 ∙ ap (λ (k : ℕ). get_or s k 0) (add-zero at))
     ∙ ap (word_of (get_or s at 0)) (get_or-drop at s 1 0)
-
--- the bytes from a place on start with a whole record, by the length of the buffer
-whole-at : (s : List ℕ) (at : ℕ) → whole (drop at s) ≡ cond (ltb (length s - at) 2) false (leb (2 + word_at s at) (length s - at))
-whole-at s at =
-    ap (λ (n : ℕ). cond (ltb n 2) false (leb (2 + word_at (drop at s) 0) n)) (length-drop at s)
-    ∙ ap (λ (w : ℕ). cond (ltb (length s - at) 2) false (leb (2 + w) (length s - at))) (word_drop s at)
-
-pub too_few : (s : List ℕ) (at : ℕ) → length s - at < 2 → whole (drop at s) ≡ false
-too_few s at h = whole-at s at ∙ simp (lt-ltb (length s - at) 2 h)
-
-pub unfinished : (s : List ℕ) (at w : ℕ) → w ≡ word_at s at → 2 ≤ length s - at → length s - at - 2 < w → whole (drop at s) ≡ false
-unfinished s at w e two h = whole-at s at ∙ simp (le-ltb (length s - at) 2 two, lt-leb (2 + word_at s at) (length s - at) (omega (arith, e)))
-
-pub finished : (s : List ℕ) (at w : ℕ) → w ≡ word_at s at → 2 ≤ length s - at → w ≤ length s - at - 2 → whole (drop at s) ≡ true
-finished s at w e two h = whole-at s at ∙ simp (le-ltb (length s - at) 2 two, le-leb (2 + word_at s at) (length s - at) (omega (arith, e)))
