@@ -1,5 +1,5 @@
 -- `KnxnetIpFrame`: the datagram's bytes beside its fields, over the definitions that the field record's functions promise. Assumes nothing.
-use Rattle.std.specs.Prelude.{ℕ, ◌≡◌, List, length, Result, Ok, Err}
+use Rattle.std.specs.Prelude.{ℕ, ◌≡◌, List, [], length, Result, Ok, Err}
 use Rattle.wire.specs.Told.{Told, refused, viewed, judged}
 use Rattle.wire.specs.Layout.{get}
 use Rattle.wire.specs.Parts.{shown}
@@ -15,6 +15,11 @@ use Rattle.frame.specs.declared.frame.FrameFields.{FrameFields}
 abbrev pub ParsePromise : List ℕ → Result KnxnetIpFrame Fault → Type 0
 ParsePromise s (Ok r) = (r.«data».now ≡ s) × Frame.ParsePromise s (Ok r.fields)
 ParsePromise s (Err e) = Frame.ParsePromise s (Err e)
+
+-- what an answer borrows: the bytes of its record, none where it refuses
+abbrev pub borrowed_of : Result KnxnetIpFrame Fault → List ℕ
+borrowed_of (Ok r) = r.«data».now
+borrowed_of (Err e) = []
 
 -- where the body stands in the bytes that a record borrows: its header's checks are repeated over them; of a refused one the refusal
 abbrev pub view_of : Result FrameFields Fault → List ℕ → Told

@@ -14,7 +14,7 @@ use Rattle.header.specs.Header.{fields, total_in}
 use Rattle.frame.specs.Frame as Frame
 use Rattle.frame.specs.FrameLaws as FrameLaws
 use Rattle.borrowed.specs.Borrowed.{empty_part}
-use Rattle.borrowed.specs.KnxnetIpFrame.{ParsePromise, view_of, BodyViewPromise, body_of, BodyPromise, BodyInPromise}
+use Rattle.borrowed.specs.KnxnetIpFrame.{ParsePromise, borrowed_of, view_of, BodyViewPromise, body_of, BodyPromise, BodyInPromise}
 use Rattle.borrowed.specs.declared.knxnet_ip_frame.KnxnetIpFrame.{KnxnetIpFrame}
 use Rattle.frame.specs.declared.frame.FrameFields.{FrameFields}
 
@@ -34,6 +34,10 @@ pub body_in : (s : List ℕ) (f : KnxnetIpFrame) (r : List ℕ) → ParsePromise
 body_in s f r p q = q ∙ ap (body_of (Ok f.fields)) p.0 ∙ parsed_body s f.fields p.1
 
 -- ---- refused
+
+-- a parse that refuses borrows none
+pub borrows_none : (s : List ℕ) (r : Result KnxnetIpFrame Fault) (e : Fault) → ParsePromise s r → r ≡ Err e → borrowed_of r ≡ []
+borrows_none s r e p q = ap borrowed_of q
 
 -- of a datagram that is refused no byte is handed out
 pub body-none : (s : List ℕ) (e : Fault) → Frame.ParsePromise s (Err e) → [] ≡ shown s (judged (cs s) (viewed 6 (total_in (get fields 0 s))))

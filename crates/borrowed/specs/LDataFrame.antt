@@ -1,5 +1,5 @@
 -- `LDataFrame`: the application data beside the frame's fields, over the definitions that the field record's functions promise, and over how L counts. Assumes nothing.
-use Rattle.std.specs.Prelude.{ℕ, ◌+◌, ◌-◌, ◌≡◌, List, length, drop, Result, Ok, Err}
+use Rattle.std.specs.Prelude.{ℕ, ◌+◌, ◌-◌, ◌≡◌, List, [], length, drop, Result, Ok, Err}
 use Rattle.wire.specs.Told.{Told, refused, viewed, Check, judged}
 use Rattle.wire.specs.Places.{located}
 use Rattle.wire.specs.Layout.{get}
@@ -55,6 +55,11 @@ DataInPromise s r = r ≡ data_in s
 abbrev pub ParsedIn : Count → List ℕ → Result LDataFrame Fault → Type 0
 ParsedIn C s (Ok r) = (r.«data».now ≡ data_in_count C s) × (LData.told (Ok r.fields) ≡ LData.parse_where C s)
 ParsedIn C s (Err e) = LData.told (Err e) ≡ LData.parse_where C s
+
+-- what an answer borrows: the data of its record, none where it refuses
+abbrev pub borrowed_of : Result LDataFrame Fault → List ℕ
+borrowed_of (Ok r) = r.«data».now
+borrowed_of (Err e) = []
 
 abbrev pub ParsePromise : List ℕ → Result LDataFrame Fault → Type 0
 ParsePromise s r = ParsedIn crate_count s r

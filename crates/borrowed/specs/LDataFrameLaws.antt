@@ -24,7 +24,7 @@ use Rattle.ldata.specs.LDataLaws as LDataLaws
 use Rattle.ldata.specs.declared.count.Counting.{Counting}
 use Rattle.ldata.specs.declared.ldata.LDataFields.{LDataFields}
 use Rattle.borrowed.specs.Borrowed.{empty_part}
-use Rattle.borrowed.specs.LDataFrame.{data_in_count, DataInCountPromise, ParseInPromise, borrowed_checks, view_in, DataViewInPromise, data_of_in, FrameDataInPromise}
+use Rattle.borrowed.specs.LDataFrame.{data_in_count, DataInCountPromise, ParseInPromise, borrowed_of, borrowed_checks, view_in, DataViewInPromise, data_of_in, FrameDataInPromise}
 use Rattle.borrowed.specs.declared.ldata_frame.LDataFrame.{LDataFrame}
 
 pub fields_data : (c : Counting) (s : List ℕ) (f : LDataFields) → LData.ParseInPromise c s (Ok f) → shown s (LData.data_by01 (count_by c) f s) ≡ data_in_count (count_by c) s
@@ -92,6 +92,10 @@ pub data_in_lem : (c : Counting) (s : List ℕ) (f : LDataFrame) (r : List ℕ) 
 data_in_lem c s f r p q = q ∙ ap (data_of_in (count_by c) (Ok f.fields)) p.0 ∙ borrowed_whole c s f.fields p.1
 
 -- ---- refused
+
+-- a parse that refuses borrows none
+pub borrows_none : (c : Counting) (s : List ℕ) (r : Result LDataFrame Fault) (e : Fault) → ParseInPromise c s r → r ≡ Err e → borrowed_of r ≡ []
+borrows_none c s r e p q = ap borrowed_of q
 
 -- the view of a refused record tells that refusal
 pub view_none : (c : Counting) (s : List ℕ) (a : Result LDataFields Fault) (e : Fault) (r : Result View Fault) → a ≡ Err e → DataViewInPromise c s a r → Parts.told r ≡ refused 0 e

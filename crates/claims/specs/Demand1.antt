@@ -477,6 +477,9 @@ table_heard_in = Compiled.heard_in_refusing
 pub knxnet_ip_parse : (s : List ℕ) (e : Fault) → KnxnetIpFrame.ParsePromise s (Err e) → Refusing (Frame.told (Err e))
 knxnet_ip_parse s e p = frame_parse s (Err e) p
 
+pub knxnet_ip_borrows : (s : List ℕ) (r : Result KnxnetIpFrame Fault) (e : Fault) → KnxnetIpFrame.ParsePromise s r → r ≡ Err e → KnxnetIpFrame.borrowed_of r ≡ []
+knxnet_ip_borrows = KnxnetIpFrameLaws.borrows_none
+
 -- borrowed::KnxnetIpFrame::body
 pub knxnet_ip_body : (f : KnxnetIpFrame) (e : Fault) (r : List ℕ) → KnxnetIpFrame.BodyViewPromise f.«data».now (Ok f.fields) (Err e) → KnxnetIpFrame.BodyPromise f r → r ≡ []
 knxnet_ip_body = KnxnetIpFrameLaws.body_refused
@@ -495,6 +498,9 @@ knxnet_ip_body_in s r e v q = q ∙ shown-refused (Frame.checks (length s) (get 
 -- borrowed::LDataFrame::parse_in
 pub ldata_frame_parse_in : (c : Counting) (s : List ℕ) (e : Fault) → LDataFrame.ParseInPromise c s (Err e) → Refusing (LData.told (Err e))
 ldata_frame_parse_in c s e p = ldata_parse_in c s (Err e) p
+
+pub ldata_frame_borrows : (c : Counting) (s : List ℕ) (r : Result LDataFrame Fault) (e : Fault) → LDataFrame.ParseInPromise c s r → r ≡ Err e → LDataFrame.borrowed_of r ≡ []
+ldata_frame_borrows = LDataFrameLaws.borrows_none
 
 -- borrowed::LDataFrame::parse
 pub ldata_frame_parse : (s : List ℕ) (e : Fault) → LDataFrame.ParsePromise s (Err e) → Refusing (LData.told (Err e))
