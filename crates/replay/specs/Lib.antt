@@ -2,4 +2,5 @@
 pub mod Telling
 pub mod Lines
 pub mod Records
+pub mod Running
 pub mod Laws
