@@ -3,22 +3,27 @@ use address::IndividualAddress;
 use cemi::CEMIFrame;
 use control::{ControlField1, ControlField2};
 use ldata::{Counting, LDataBuilder, LDataFields};
-use replay::Told;
+use replay::{Calls, Told};
 use wire::{View, Refusal, Fault};
 
-pub(crate) fn answer(call: u8, args: &[u8], buf: &mut [u8]) -> Told {
-    match call {
-        40 => ldata_parse(Counting::Crate, args),
-        41 => cemi_parse(args),
-        42 => service_info(args),
-        43 => as_ldata(Counting::Crate, args),
-        44 => as_ldata_set(args),
-        45 => ldata_build(Counting::Crate, args, buf),
-        65 => ldata_parse(Counting::Standard, args),
-        66 => as_ldata(Counting::Standard, args),
-        67 => as_ldata_made(args),
-        68 => ldata_build(Counting::Standard, args, buf),
-        _ => replay::few(0, [0; 4]),
+#[derive(Drop)]
+pub(crate) struct TelegramCalls;
+
+impl Calls for TelegramCalls {
+    fn answer(&mut self, call: u8, args: &[u8], buf: &mut [u8]) -> Told {
+        match call {
+            40 => ldata_parse(Counting::Crate, args),
+            41 => cemi_parse(args),
+            42 => service_info(args),
+            43 => as_ldata(Counting::Crate, args),
+            44 => as_ldata_set(args),
+            45 => ldata_build(Counting::Crate, args, buf),
+            65 => ldata_parse(Counting::Standard, args),
+            66 => as_ldata(Counting::Standard, args),
+            67 => as_ldata_made(args),
+            68 => ldata_build(Counting::Standard, args, buf),
+            _ => replay::few(0, [0; 4]),
+        }
     }
 }
 
