@@ -4,9 +4,11 @@
 mod lines;
 mod records;
 mod running;
+mod telegrams;
 mod telling;
 
 pub use lines::line;
 pub use records::{Record, next, number24};
 pub use running::{Calls, run};
+pub use telegrams::{asks, telegram};
 pub use telling::{Told, few, flag, located, moved, refused, remainder, written};

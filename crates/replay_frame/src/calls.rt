@@ -27,10 +27,7 @@ impl Calls for FrameCalls {
 
 fn service_from(args: &[u8]) -> Told {
     match ServiceType::from_u16(wire::word_at(args, 0)) {
-        Ok(s) => replay::few(
-            2,
-            [variants::service(s), usize::from(s.to_u16()), 0, 0],
-        ),
+        Ok(s) => replay::few(2, [variants::service(s), usize::from(s.to_u16()), 0, 0]),
         Err(fault) => replay::refused(fault, 2),
     }
 }
@@ -85,10 +82,7 @@ fn header_encode(args: &[u8], buf: &mut [u8]) -> Told {
 }
 
 fn header_body_length(args: &[u8]) -> Told {
-    replay::few(
-        1,
-        [usize::from(header_at(args).body_length()), 0, 0, 0],
-    )
+    replay::few(1, [usize::from(header_at(args).body_length()), 0, 0, 0])
 }
 
 fn frame_parse(args: &[u8]) -> Told {

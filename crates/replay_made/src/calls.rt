@@ -7,6 +7,7 @@ pub(crate) struct MadeCalls;
 
 impl Calls for MadeCalls {
     fn answer(&mut self, call: u8, args: &[u8], _buf: &mut [u8]) -> Told {
+        // A record names its call by a number.
         match call {
             52 => frames::accessors(args),
             53 => telegrams::cemi(args),

@@ -6,6 +6,7 @@ mod borrowing;
 mod calls;
 mod frames;
 mod telegrams;
+mod views;
 
 use calls::MadeCalls;
 
