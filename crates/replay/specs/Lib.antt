@@ -2,4 +2,6 @@
 pub mod Telling
 pub mod Lines
 pub mod Records
+pub mod Telegrams
+pub mod Running
 pub mod Laws

@@ -13,8 +13,9 @@ pub struct Record {
 }
 
 // Reads the next record's arguments, and prepares the buffer that is lent. A record that asks for more than there is ends the run, and lines are missing; so does a read that fails.
+#[tactic(auto, using(crate::specs::Laws::read_from))]
 pub fn next<R: Read>(input: &mut R, args: &mut [u8], buf: &mut [u8]) -> Option<Record>
-    ensures { NextPromise result args.new buf.old buf.new }
+    ensures { NextPromise (R.remaining input.old) (R.remaining input.new) result args.new buf.old buf.new }
 {
     let mut head = [0u8; 7];
     input.read_exact(&mut head).ok()?;

@@ -2,35 +2,24 @@
 use hpai::Hpai;
 use replay::Told;
 
-// The seven values of an Hpai, and the offset of a refusal.
-pub(crate) fn told(number: u8, offset: usize, h: Hpai) -> Told {
+// The seven values of an Hpai.
+pub(crate) fn values(h: Hpai) -> [usize; 7] {
     let ip = h.ip_address;
-    let seven = Told {
-        number,
-        count: 7,
-        values: [
-            h.structure_length as usize,
-            h.host_protocol as usize,
-            ip[0] as usize,
-            ip[1] as usize,
-            ip[2] as usize,
-            ip[3] as usize,
-            h.port as usize,
-            0,
-            0,
-            0,
-            0,
-            0,
-            0,
-            0,
-            0,
-            0,
-        ],
-        lends: false,
-        refusals: 0,
-        offsets: [0; 4],
-    };
-    replay::located(seven, number, offset)
+    [
+        usize::from(h.structure_length),
+        usize::from(h.host_protocol),
+        usize::from(ip[0]),
+        usize::from(ip[1]),
+        usize::from(ip[2]),
+        usize::from(ip[3]),
+        usize::from(h.port),
+    ]
+}
+
+fn told(h: Hpai) -> Told {
+    let mut t = replay::few(7, [0; 4]);
+    t.values[..7].copy_from_slice(&values(h));
+    t
 }
 
 fn address_at(args: &[u8], from: usize) -> [u8; 4] {
@@ -46,23 +35,23 @@ fn address_at(args: &[u8], from: usize) -> [u8; 4] {
 // The Hpai whose eight field bytes stand at a place.
 pub(crate) fn read_at(args: &[u8], from: usize) -> Hpai {
     let s = wire::part(args, from, args.len());
-    let ip_address = address_at(s, 2);
     Hpai {
         structure_length: wire::byte_at(s, 0),
         host_protocol: wire::byte_at(s, 1),
-        ip_address,
+        ip_address: address_at(s, 2),
         port: wire::word_at(s, 6),
     }
 }
 
 pub(crate) fn new(args: &[u8]) -> Told {
-    told(0, 0, Hpai::new(address_at(args, 0), wire::word_at(args, 4)))
+    told(Hpai::new(address_at(args, 0), wire::word_at(args, 4)))
 }
 
 pub(crate) fn parse(args: &[u8]) -> Told {
-    let r = Hpai::parse(args);
-    let h = r.hpai;
-    told(r.number, r.offset, h)
+    match Hpai::parse(args) {
+        Ok(h) => told(h),
+        Err(fault) => replay::refused(fault, 7),
+    }
 }
 
 pub(crate) fn encode(args: &[u8], buf: &mut [u8]) -> Told {

@@ -2,29 +2,32 @@
 use constants::ServiceType;
 use frame::{FrameBuilder, FrameFields};
 use header::KnxnetIpHeader;
-use replay::Told;
+use replay::{Calls, Told};
 use wire::Fault;
 
-pub(crate) fn answer(call: u8, args: &[u8], buf: &mut [u8]) -> Told {
-    match call {
-        1 => service_from(args),
-        2 => header_new(args),
-        3 => header_parse(args),
-        4 => header_encode(args, buf),
-        5 => header_body_length(args),
-        6 => frame_parse(args),
-        7 => frame_build(args, buf),
-        8 => frame_size(args),
-        _ => replay::few(0, [0; 4]),
+#[derive(Drop)]
+pub(crate) struct FrameCalls;
+
+impl Calls for FrameCalls {
+    fn answer(&mut self, call: u8, args: &[u8], buf: &mut [u8]) -> Told {
+        // A record names its call by a number.
+        match call {
+            1 => service_from(args),
+            2 => header_new(args),
+            3 => header_parse(args),
+            4 => header_encode(args, buf),
+            5 => header_body_length(args),
+            6 => frame_parse(args),
+            7 => frame_build(args, buf),
+            8 => frame_size(args),
+            _ => replay::few(0, [0; 4]),
+        }
     }
 }
 
 fn service_from(args: &[u8]) -> Told {
     match ServiceType::from_u16(wire::word_at(args, 0)) {
-        Ok(s) => replay::few(
-            2,
-            [variants::service(s), s.to_u16() as usize, 0, 0],
-        ),
+        Ok(s) => replay::few(2, [variants::service(s), usize::from(s.to_u16()), 0, 0]),
         Err(fault) => replay::refused(fault, 2),
     }
 }
@@ -34,22 +37,21 @@ fn service_at(args: &[u8], at: usize) -> ServiceType {
 }
 
 fn header(h: KnxnetIpHeader, count: usize) -> Told {
-    let s = h.service_type;
     let mut t = replay::few(
         count,
         [
-            h.header_length as usize,
-            h.protocol_version as usize,
-            variants::service(s),
-            s.to_u16() as usize,
+            usize::from(h.header_length),
+            usize::from(h.protocol_version),
+            variants::service(h.service_type),
+            usize::from(h.service_type.to_u16()),
         ],
     );
-    t.values[4] = h.total_length as usize;
+    t.values[4] = usize::from(h.total_length);
     t
 }
 
-fn header_answer(a: Result<KnxnetIpHeader, Fault>) -> Told {
-    match a {
+fn header_answer(answer: Result<KnxnetIpHeader, Fault>) -> Told {
+    match answer {
         Ok(h) => header(h, 5),
         Err(fault) => replay::refused(fault, 5),
     }
@@ -67,11 +69,10 @@ fn header_parse(args: &[u8]) -> Told {
 }
 
 fn header_at(args: &[u8]) -> KnxnetIpHeader {
-    let service_type = service_at(args, 2);
     KnxnetIpHeader {
         header_length: wire::byte_at(args, 0),
         protocol_version: wire::byte_at(args, 1),
-        service_type,
+        service_type: service_at(args, 2),
         total_length: wire::word_at(args, 3),
     }
 }
@@ -81,52 +82,32 @@ fn header_encode(args: &[u8], buf: &mut [u8]) -> Told {
 }
 
 fn header_body_length(args: &[u8]) -> Told {
-    replay::few(1, [header_at(args).body_length() as usize, 0, 0, 0])
+    replay::few(1, [usize::from(header_at(args).body_length()), 0, 0, 0])
 }
 
 fn frame_parse(args: &[u8]) -> Told {
-    match FrameFields::parse(args) {
-        Ok(f) => frame(f, args),
+    match frame(args) {
+        Ok(t) => t,
         Err(fault) => replay::refused(fault, 13),
     }
 }
 
-// What the accessors tell of a frame that was parsed, and the parts that are handed out: the body by the record that holds its slice.
-fn frame(f: FrameFields, args: &[u8]) -> Told {
-    let mut t = frame_header(f.header(args));
-    let service = f.service_type(args);
-    let body = f.body(args);
-    let data = f.data(args);
-    t.values[5] = number_in(service);
-    t.values[6] = code_in(service);
+// What the accessors tell of a frame that is parsed, and the parts that are handed out: the body by the record that holds its slice.
+fn frame(args: &[u8]) -> Result<Told, Fault> {
+    let f = FrameFields::parse(args)?;
+    let service = f.service_type(args)?;
+    let body = f.body(args)?;
+    let data = f.data(args)?;
+    let mut t = header(f.header(args)?, 13);
+    t.values[5] = variants::service(service);
+    t.values[6] = usize::from(service.to_u16());
     t.values[7] = body.start;
     t.values[8] = body.end;
     t.values[9] = replay::remainder(borrowed::body_in(args));
     t.values[10] = data.start;
     t.values[11] = data.end;
     t.values[12] = replay::remainder(f.data_part(args));
-    t
-}
-
-fn frame_header(a: Result<KnxnetIpHeader, Fault>) -> Told {
-    match a {
-        Ok(h) => header(h, 13),
-        Err(fault) => replay::refused(fault, 13),
-    }
-}
-
-fn number_in(a: Result<ServiceType, Fault>) -> usize {
-    match a {
-        Ok(s) => variants::service(s),
-        Err(_) => 0,
-    }
-}
-
-fn code_in(a: Result<ServiceType, Fault>) -> usize {
-    match a {
-        Ok(s) => s.to_u16() as usize,
-        Err(_) => 0,
-    }
+    Ok(t)
 }
 
 fn frame_build(args: &[u8], buf: &mut [u8]) -> Told {

@@ -1,65 +1,58 @@
 // The calls on additional information, 58 to 64. Argument bytes that are missing count as 0; another call gets a line that no call has.
-use additional_info::{AdditionalInfo, AdditionalInfoAnswer, AdditionalInfoType};
+use additional_info::{AdditionalInfo, AdditionalInfoType};
 use cemi::CEMIFrame;
-use replay::Told;
+use replay::{Calls, Told};
+use wire::Fault;
 
-pub(crate) fn answer(call: u8, args: &[u8], buf: &mut [u8]) -> Told {
-    match call {
-        58 => info_type(args),
-        59 => record(AdditionalInfo::parse(args), args),
-        60 => count(args),
-        61 => nth(args),
-        62 => append(args, buf),
-        63 => area(args),
-        64 => build(args, buf),
-        _ => replay::few(0, [0; 4]),
+#[derive(Drop)]
+pub(crate) struct InfoCalls;
+
+impl Calls for InfoCalls {
+    fn answer(&mut self, call: u8, args: &[u8], buf: &mut [u8]) -> Told {
+        // A record names its call by a number.
+        match call {
+            58 => info_type(args),
+            59 => record(AdditionalInfo::parse(args), args),
+            60 => count(args),
+            61 => nth(args),
+            62 => append(args, buf),
+            63 => area(args),
+            64 => build(args, buf),
+            _ => replay::few(0, [0; 4]),
+        }
     }
 }
 
 fn info_type(args: &[u8]) -> Told {
     let t = AdditionalInfoType::from_u8(wire::byte_at(args, 0));
-    replay::few(2, [variants::info_type(t), t.to_u8() as usize, 0, 0])
+    replay::few(2, [variants::info_type(t), usize::from(t.to_u8()), 0, 0])
+}
+
+fn record(answer: Result<Option<AdditionalInfo>, Fault>, area: &[u8]) -> Told {
+    match answer {
+        Ok(Some(info)) => stands(info, area),
+        Ok(None) => replay::few(9, [0; 4]),
+        Err(fault) => replay::refused(fault, 9),
+    }
 }
 
 // Type, timestamp, where the data stands, and the remainders of the data and of what remains behind it.
-fn record(answer: AdditionalInfoAnswer, area: &[u8]) -> Told {
-    match answer {
-        AdditionalInfoAnswer::Record(r) => {
-            let t = r.info_type;
-            let timestamp = r.timestamp;
-            let mut told = replay::few(
-                9,
-                [
-                    1,
-                    variants::info_type(t),
-                    t.to_u8() as usize,
-                    valued(timestamp),
-                ],
-            );
-            told.values[4] = value(timestamp);
-            told.values[5] = r.start;
-            told.values[6] = r.end;
-            told.values[7] = replay::remainder(wire::part(area, r.start, r.end));
-            told.values[8] = replay::remainder(wire::part(area, r.end, area.len()));
-            told
-        }
-        AdditionalInfoAnswer::None => replay::few(9, [0; 4]),
-        AdditionalInfoAnswer::Refused(fault) => replay::refused(fault, 9),
-    }
-}
-
-fn valued(timestamp: Option<u32>) -> usize {
-    match timestamp {
-        Some(_) => 1,
-        None => 0,
-    }
-}
-
-fn value(timestamp: Option<u32>) -> usize {
-    match timestamp {
-        Some(n) => n as usize,
-        None => 0,
-    }
+fn stands(info: AdditionalInfo, area: &[u8]) -> Told {
+    let mut told = replay::few(
+        9,
+        [
+            1,
+            variants::info_type(info.info_type),
+            usize::from(info.info_type.to_u8()),
+            replay::flag(info.timestamp.is_some()),
+        ],
+    );
+    told.values[4] = info.timestamp.unwrap_or(0) as usize;
+    told.values[5] = info.start;
+    told.values[6] = info.end;
+    told.values[7] = replay::remainder(wire::part(area, info.start, info.end));
+    told.values[8] = replay::remainder(wire::part(area, info.end, area.len()));
+    told
 }
 
 fn count(args: &[u8]) -> Told {
@@ -90,16 +83,17 @@ fn append(args: &[u8], buf: &mut [u8]) -> Told {
 }
 
 fn area(args: &[u8]) -> Told {
-    match CEMIFrame::parse(args) {
-        Ok(f) => {
-            let view = f.additional_info(args);
-            let rest = replay::remainder(f.additional_info_part(args));
-            let mut told = replay::few(3, [view.start, view.end, rest, 0]);
-            told.number = view.number;
-            replay::located(told, view.number, view.offset)
-        }
+    match shown(args) {
+        Ok(t) => t,
         Err(fault) => replay::refused(fault, 3),
     }
+}
+
+fn shown(args: &[u8]) -> Result<Told, Fault> {
+    let f = CEMIFrame::parse(args)?;
+    let view = f.additional_info(args)?;
+    let rest = replay::remainder(f.additional_info_part(args));
+    Ok(replay::few(3, [view.start, view.end, rest, 0]))
 }
 
 fn build(args: &[u8], buf: &mut [u8]) -> Told {

@@ -1,35 +1,78 @@
 // The calls on a table of tunnels, 46 to 51, and 76, a datagram in KNX's own form: the table is carried from record to record.
-use replay::Told;
-use tunnel::{Said, Tunnel, Wait};
-use tunnel_table::{Called, Hold, Place, Table};
+use replay::{Calls, Told};
+use tunnel::{Tunnel, Wait};
+use tunnel_table::{Called, Held, Table};
 use tunnelling::Form;
+use wire::Fault;
 
-// What a call told, and the table after it.
-#[derive(Clone, Copy)]
-pub(crate) struct Carried {
-    pub(crate) told: Told,
-    pub(crate) table: Table,
+// The table that the last call left.
+#[derive(Drop)]
+pub(crate) struct TableCalls {
+    table: Table,
 }
 
-pub(crate) fn answer(call: u8, args: &[u8], buf: &mut [u8], table: Table) -> Carried {
-    let id = wire::byte_at(args, 0);
-    match call {
-        46 => with_places(0, 0, [0; 4], false, table_of(args)),
-        47 => called(table.open(id), false),
-        48 => called(table.close(id), false),
-        49 => called(table.timeout(id), false),
-        50 => called(table.send(id, wire::part(args, 1, args.len()), buf), true),
-        51 => called(datagram(table, args, buf), true),
-        76 => called(table.datagram_in(Form::Standard, args, buf), true),
-        _ => Carried {
-            told: replay::few(0, [0; 4]),
-            table,
-        },
+impl TableCalls {
+    pub(crate) fn new() -> TableCalls {
+        TableCalls {
+            table: Table::empty(),
+        }
+    }
+
+    // What a call gave. A refusal leaves the table as it was.
+    fn called(&mut self, answer: Result<Called, Fault>) -> Told {
+        match answer {
+            Ok(c) => {
+                self.table = c.table;
+                self.with_places(replay::few(
+                    12,
+                    [
+                        usize::from(c.said.number()),
+                        c.view.start,
+                        c.view.end,
+                        c.written,
+                    ],
+                ))
+            }
+            Err(fault) => self.with_places(replay::refused(fault, 12)),
+        }
+    }
+
+    // The places after the call stand behind four values.
+    fn with_places(&self, told: Told) -> Told {
+        let mut t = told;
+        t.values[4..12].copy_from_slice(&self.table.places.map(place_number));
+        t
     }
 }
 
+impl Calls for TableCalls {
+    fn answer(&mut self, call: u8, args: &[u8], buf: &mut [u8]) -> Told {
+        let id = wire::byte_at(args, 0);
+        let table = self.table;
+        // A record names its call by a number.
+        match call {
+            46 => {
+                self.table = table_of(args);
+                self.with_places(replay::few(12, [0; 4]))
+            }
+            47 => self.called(table.open(id)),
+            48 => self.called(table.close(id)),
+            49 => self.called(table.timeout(id)),
+            50 => lent(self.called(table.send(id, wire::part(args, 1, args.len()), buf))),
+            51 => lent(self.called(datagram(table, args, buf))),
+            76 => lent(self.called(table.datagram_in(Form::Standard, args, buf))),
+            _ => replay::few(0, [0; 4]),
+        }
+    }
+}
+
+// The buffer is shown too.
+fn lent(t: Told) -> Told {
+    Told { lends: true, ..t }
+}
+
 // By `datagram`, or where the output has an odd length by its two halves, which give the same.
-fn datagram(table: Table, args: &[u8], buf: &mut [u8]) -> Called {
+fn datagram(table: Table, args: &[u8], buf: &mut [u8]) -> Result<Called, Fault> {
     if buf.len() % 2 == 0 {
         return table.datagram(args, buf);
     }
@@ -39,118 +82,34 @@ fn datagram(table: Table, args: &[u8], buf: &mut [u8]) -> Called {
 // Five bytes a place: open, id, r, s, wait.
 fn table_of(args: &[u8]) -> Table {
     let mut table = Table::empty();
-    table.places[0] = place_of(wire::part(args, 0, 5));
-    table.places[1] = place_of(wire::part(args, 5, 10));
-    table.places[2] = place_of(wire::part(args, 10, 15));
-    table.places[3] = place_of(wire::part(args, 15, 20));
-    table.places[4] = place_of(wire::part(args, 20, 25));
-    table.places[5] = place_of(wire::part(args, 25, 30));
-    table.places[6] = place_of(wire::part(args, 30, 35));
-    table.places[7] = place_of(wire::part(args, 35, 40));
+    for (place, five) in table.places.iter_mut().zip(args.chunks(5)) {
+        *place = place_of(five);
+    }
     table
 }
 
-fn place_of(five: &[u8]) -> Place {
+fn place_of(five: &[u8]) -> Option<Held> {
     if wire::byte_at(five, 0) == 0 {
-        return Place { hold: Hold::Free };
+        return None;
     }
-    let tunnel = Tunnel {
-        r: wire::byte_at(five, 2),
-        s: wire::byte_at(five, 3),
-        w: wait_of(wire::byte_at(five, 4)),
-    };
-    Place {
-        hold: Hold::Held {
-            id: wire::byte_at(five, 1),
-            tunnel,
+    Some(Held {
+        id: wire::byte_at(five, 1),
+        tunnel: Tunnel {
+            r: wire::byte_at(five, 2),
+            s: wire::byte_at(five, 3),
+            w: Wait::from_u8(wire::byte_at(five, 4)),
         },
-    }
-}
-
-fn wait_of(n: u8) -> Wait {
-    match n {
-        0 => Wait::Idle,
-        1 => Wait::First,
-        _ => Wait::Second,
-    }
-}
-
-fn wait_number(w: Wait) -> u8 {
-    match w {
-        Wait::Idle => 0,
-        Wait::First => 1,
-        Wait::Second => 2,
-    }
-}
-
-fn said_number(said: Said) -> usize {
-    match said {
-        Said::Nothing => 0,
-        Said::Repeat => 1,
-        Said::GiveUp => 2,
-        Said::Deliver => 3,
-        Said::Duplicate => 4,
-        Said::OutOfOrder => 5,
-        Said::Sent => 6,
-        Said::Ignored => 7,
-    }
+    })
 }
 
 // One number for all that a place holds; 0 for a free one.
-fn place_number(p: Place) -> usize {
-    let hold = p.hold;
-    match hold {
-        Hold::Free => 0,
-        Hold::Held { id, tunnel } => {
-            let w = tunnel.w;
-            let s = tunnel.s as usize + 256 * (wait_number(w) as usize);
-            1 + id as usize + 256 * (tunnel.r as usize + 256 * s)
+fn place_number(place: Option<Held>) -> usize {
+    match place {
+        Some(held) => {
+            let tunnel = held.tunnel;
+            let s = usize::from(tunnel.s) + 256 * usize::from(tunnel.w.number());
+            1 + usize::from(held.id) + 256 * (usize::from(tunnel.r) + 256 * s)
         }
-    }
-}
-
-fn called(c: Called, lends: bool) -> Carried {
-    let said = c.said;
-    let table = c.table;
-    with_places(
-        c.number,
-        c.offset,
-        [said_number(said), c.start, c.end, c.written],
-        lends,
-        table,
-    )
-}
-
-// The places after the call stand behind four values.
-fn with_places(number: u8, offset: usize, four: [usize; 4], lends: bool, table: Table) -> Carried {
-    let places = table.places;
-    let twelve = Told {
-        number,
-        count: 12,
-        values: [
-            four[0],
-            four[1],
-            four[2],
-            four[3],
-            place_number(places[0]),
-            place_number(places[1]),
-            place_number(places[2]),
-            place_number(places[3]),
-            place_number(places[4]),
-            place_number(places[5]),
-            place_number(places[6]),
-            place_number(places[7]),
-            0,
-            0,
-            0,
-            0,
-        ],
-        lends,
-        refusals: 0,
-        offsets: [0; 4],
-    };
-    Carried {
-        told: replay::located(twelve, number, offset),
-        table,
+        None => 0,
     }
 }

@@ -4,83 +4,8 @@
 
 mod calls;
 
-use std::env::{Env, FillError};
-use std::io::{Read, Write};
-use tunnel_table::Table;
-
-// Whether there was a record, and the table of tunnels after it.
-#[derive(Clone, Copy)]
-struct Turned {
-    more: bool,
-    table: Table,
-}
-
-// Reads one record and answers it.
-fn turn<R: Read, W: Write>(
-    input: &mut R,
-    output: &mut W,
-    args: &mut [u8],
-    buf: &mut [u8],
-    out: &mut [u8],
-    table: Table,
-) -> Turned {
-    let record = replay::next(input, args, buf);
-    if !record.more {
-        return Turned { more: false, table };
-    }
-    let m = record.m;
-    let carried = calls::answer(
-        record.call,
-        wire::part(args, 0, record.n),
-        &mut buf[..m],
-        table,
-    );
-    let after = carried.table;
-    let used = replay::line(carried.told, wire::part(buf, 0, m), out);
-    Turned {
-        more: output.write_all(wire::part(out, 0, used)).is_ok(),
-        table: after,
-    }
-}
-
-// Every turn reads seven bytes, so no input is long enough to meet this count.
-fn run<R: Read, W: Write>(
-    input: &mut R,
-    output: &mut W,
-    args: &mut [u8],
-    buf: &mut [u8],
-    out: &mut [u8],
-) {
-    let mut turns = u64::MAX;
-    let mut table = Table::empty();
-    while turns > 0 {
-        let turned = turn(input, output, args, buf, out, table);
-        if !turned.more {
-            break;
-        }
-        table = turned.table;
-        turns -= 1;
-    }
-}
-
-// Whether there are arguments behind the program's name. They are not read, so no room is lent for them.
-fn has_arguments(rt: &impl Env) -> bool {
-    !matches!(rt.arg(1, &mut []), Err(FillError::NotPresent))
-}
+use calls::TableCalls;
 
 fn main(rt: HostRuntime) {
-    if has_arguments(&rt) {
-        let _ = eprintln!(rt; "usage: replay_table < RECORDS");
-        return;
-    }
-    let mut args = [0u8; 66000];
-    let mut buf = [0u8; 66000];
-    let mut out = [0u8; 133000];
-    run(
-        &mut rt.stdin(),
-        &mut rt.stdout(),
-        &mut args,
-        &mut buf,
-        &mut out,
-    );
+    replay::run(&rt, "replay_table < RECORDS", &mut TableCalls::new());
 }

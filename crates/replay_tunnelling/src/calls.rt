@@ -1,19 +1,25 @@
 // The calls of services.rs that tunnel, 22 to 27, and an acknowledgement in KNX's own form, 71 and 72.
-use replay::Told;
+use replay::{Calls, Told};
 use tunnelling::{ConnectionHeader, Form, TunnelingAck, TunnelingRequest};
 use wire::Fault;
 
-pub(crate) fn answer(call: u8, args: &[u8], buf: &mut [u8]) -> Told {
-    match call {
-        22 => header_encode(args, buf),
-        23 => header_decode(args),
-        24 => request_build(args, buf),
-        25 => request_parse(args),
-        26 => ack_build(args, buf),
-        27 => ack_parse(args),
-        71 => standard_ack_build(args, buf),
-        72 => standard_ack_parse(args),
-        _ => replay::few(0, [0; 4]),
+#[derive(Drop)]
+pub(crate) struct TunnellingCalls;
+
+impl Calls for TunnellingCalls {
+    fn answer(&mut self, call: u8, args: &[u8], buf: &mut [u8]) -> Told {
+        // A record names its call by a number.
+        match call {
+            22 => header_encode(args, buf),
+            23 => header_decode(args),
+            24 => request_build(args, buf),
+            25 => request_parse(args),
+            26 => ack_build(args, buf),
+            27 => ack_parse(args),
+            71 => standard_ack_build(args, buf),
+            72 => standard_ack_parse(args),
+            _ => replay::few(0, [0; 4]),
+        }
     }
 }
 
@@ -38,17 +44,18 @@ fn request_build(args: &[u8], buf: &mut [u8]) -> Told {
 }
 
 fn request_parse(args: &[u8]) -> Told {
-    match TunnelingRequest::parse(args) {
-        Ok(q) => request(q, args),
+    match request(args) {
+        Ok(t) => t,
         Err(fault) => replay::refused(fault, 5),
     }
 }
 
-fn request(q: TunnelingRequest, args: &[u8]) -> Told {
-    let view = q.cemi_data(args);
+fn request(args: &[u8]) -> Result<Told, Fault> {
+    let q = TunnelingRequest::parse(args)?;
+    let view = q.cemi_data(args)?;
     let mut t = told(q.connection_header, 5, view.start, view.end);
     t.values[4] = replay::remainder(q.cemi_part(args));
-    t
+    Ok(t)
 }
 
 fn ack_at(args: &[u8]) -> TunnelingAck {
@@ -76,7 +83,7 @@ fn ack(answer: Result<TunnelingAck, Fault>) -> Told {
         Ok(a) => told(
             a.connection_header,
             4,
-            a.status as usize,
+            usize::from(a.status),
             replay::flag(a.is_ok()),
         ),
         Err(fault) => replay::refused(fault, 4),
@@ -87,6 +94,11 @@ fn ack(answer: Result<TunnelingAck, Fault>) -> Told {
 fn told(h: ConnectionHeader, count: usize, c: usize, d: usize) -> Told {
     replay::few(
         count,
-        [h.channel_id as usize, h.sequence_counter as usize, c, d],
+        [
+            usize::from(h.channel_id),
+            usize::from(h.sequence_counter),
+            c,
+            d,
+        ],
     )
 }
