@@ -823,6 +823,9 @@ knx_table_datagram_standard bytes before image = knx_table_calls image (Datagram
 -- replay::line
 -- replay::number24
 -- replay::next
+-- replay::telegram
+-- replay::asks
+-- replay::replay
 -- variants::service
 -- variants::service_of
 -- variants::message_code

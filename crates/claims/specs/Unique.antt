@@ -96,6 +96,8 @@ use Rattle.replay.specs.Telling as Telling
 use Rattle.replay.specs.Lines as ReplayLines
 use Rattle.replay.specs.Laws as ReplayLaws
 use Rattle.replay.specs.Records as Records
+use Rattle.replay.specs.Telegrams as Telegrams
+use Rattle.replay.specs.Running as Replaying
 use Rattle.replay.specs.declared.records.Record.{Record}
 use Rattle.replay.specs.declared.telling.Told.{Told}
 use Rattle.tunnel_datagram.specs.declared.hearing.Heard.{Heard}
@@ -1088,7 +1090,7 @@ knx_table_datagram bytes out image = CalledLaws.call_one image (Datagram bytes o
 pub knx_table_datagram_standard : (bytes out : List ℕ) → OneImage (λ image. Called.DatagramStandardPromise image bytes out)
 knx_table_datagram_standard bytes out image = CalledLaws.call_one image (DatagramIn Form.Standard bytes out)
 
--- ---- replay: what the programs that replay recorded calls share; of a record that was read the buffer that is lent to its call
+-- ---- replay: what the programs that replay recorded calls share; of a record that was read the buffer that is lent to its call, of a run over an input of no record all
 
 -- replay::refused
 pub replay_refused : One₂ Telling.RefusedPromise
@@ -1127,9 +1129,22 @@ pub replay_number24 : One Records.Number24Promise
 replay_number24 s r q = same
 
 -- replay::next
-pub replay_next : (r : Option Record) (args buf after later : List ℕ) → Records.NextPromise r args buf after → Records.NextPromise r args buf later → after ≡ later
-replay_next None args buf after later p q = same p q
-replay_next (Some r) args buf after later p q = same p.filled q.filled
+pub replay_next : (before left : Option (List ℕ)) (r : Option Record) (args buf after later : List ℕ) → Records.NextPromise before left r args buf after → Records.NextPromise before left r args buf later → after ≡ later
+replay_next before left None args buf after later p q = same p q
+replay_next before left (Some r) args buf after later p q = same p.filled q.filled
+
+-- replay::replay
+pub replay_replay : {W C : Type 0} (input : Option (List ℕ)) (out after later : W) (calls left last : C) → Replaying.NoRecord input
+    → Replaying.ReplayPromise input out after calls left → Replaying.ReplayPromise input out later calls last → (after ≡ later) × (left ≡ last)
+replay_replay input out after later calls left last none p q = (same (p none).0 (q none).0, same (p none).1 (q none).1)
+
+-- replay::telegram
+pub replay_telegram : One₃ Telegrams.TelegramPromise
+replay_telegram f view data r q = same
+
+-- replay::asks
+pub replay_asks : One Telegrams.AsksPromise
+replay_asks f r q = same
 
 -- ---- variants: the numbers that recorded calls have for them
 

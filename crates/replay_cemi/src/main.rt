@@ -5,7 +5,8 @@
 mod calls;
 
 use calls::CodeCalls;
+use replay::Calls;
 
 fn main(rt: HostRuntime) {
-    replay::run(&rt, "replay_cemi < RECORDS", &mut CodeCalls);
+    CodeCalls.run(&rt, "replay_cemi < RECORDS");
 }

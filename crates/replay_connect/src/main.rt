@@ -7,7 +7,8 @@ mod connect_calls;
 mod hpai_calls;
 
 use calls::ConnectCalls;
+use replay::Calls;
 
 fn main(rt: HostRuntime) {
-    replay::run(&rt, "replay_connect < RECORDS", &mut ConnectCalls);
+    ConnectCalls.run(&rt, "replay_connect < RECORDS");
 }

@@ -5,7 +5,8 @@
 mod calls;
 
 use calls::FrameCalls;
+use replay::Calls;
 
 fn main(rt: HostRuntime) {
-    replay::run(&rt, "replay_frame < RECORDS", &mut FrameCalls);
+    FrameCalls.run(&rt, "replay_frame < RECORDS");
 }

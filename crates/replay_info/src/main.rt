@@ -5,7 +5,8 @@
 mod calls;
 
 use calls::InfoCalls;
+use replay::Calls;
 
 fn main(rt: HostRuntime) {
-    replay::run(&rt, "replay_info < RECORDS", &mut InfoCalls);
+    InfoCalls.run(&rt, "replay_info < RECORDS");
 }

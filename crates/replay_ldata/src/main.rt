@@ -5,7 +5,8 @@
 mod calls;
 
 use calls::TelegramCalls;
+use replay::Calls;
 
 fn main(rt: HostRuntime) {
-    replay::run(&rt, "replay_ldata < RECORDS", &mut TelegramCalls);
+    TelegramCalls.run(&rt, "replay_ldata < RECORDS");
 }

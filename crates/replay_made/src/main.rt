@@ -9,7 +9,8 @@ mod telegrams;
 mod views;
 
 use calls::MadeCalls;
+use replay::Calls;
 
 fn main(rt: HostRuntime) {
-    replay::run(&rt, "replay_made < RECORDS", &mut MadeCalls);
+    MadeCalls.run(&rt, "replay_made < RECORDS");
 }

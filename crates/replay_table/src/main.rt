@@ -5,7 +5,8 @@
 mod calls;
 
 use calls::TableCalls;
+use replay::Calls;
 
 fn main(rt: HostRuntime) {
-    replay::run(&rt, "replay_table < RECORDS", &mut TableCalls::new());
+    TableCalls::new().run(&rt, "replay_table < RECORDS");
 }

@@ -5,7 +5,8 @@
 mod calls;
 
 use calls::TunnellingCalls;
+use replay::Calls;
 
 fn main(rt: HostRuntime) {
-    replay::run(&rt, "replay_tunnelling < RECORDS", &mut TunnellingCalls);
+    TunnellingCalls.run(&rt, "replay_tunnelling < RECORDS");
 }
