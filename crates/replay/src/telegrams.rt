@@ -43,7 +43,9 @@ pub fn asks(f: LDataFields) -> [usize; 3]
     let response = telling::flag(f.is_group_response());
     [
         write + 2 * read + 4 * response,
-        f.destination_group().map_or(0, |a| usize::from(a.to_u16()) + 1),
-        f.destination_individual().map_or(0, |a| usize::from(a.to_u16()) + 1),
+        f.destination_group()
+            .map_or(0, |a| usize::from(a.to_u16()) + 1),
+        f.destination_individual()
+            .map_or(0, |a| usize::from(a.to_u16()) + 1),
     ]
 }
