@@ -22,7 +22,6 @@ use Rattle.additional_info.specs.AreaLaws as AreaLaws
 use Rattle.additional_info.specs.Appending as Appending
 use Rattle.additional_info.specs.AppendingLaws as AppendingLaws
 use Rattle.additional_info.specs.declared.info_type.AdditionalInfoType.{AdditionalInfoType}
-use Rattle.additional_info.specs.declared.info_type.AdditionalInfoType.TheVariants as AdditionalInfoType
 use Rattle.additional_info.specs.declared.area.AdditionalInfo.{AdditionalInfo}
 use Rattle.cemi.specs.Cemi as Cemi
 use Rattle.cemi.specs.InfoLaws as CemiInfoLaws

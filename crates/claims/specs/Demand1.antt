@@ -44,7 +44,6 @@ use Rattle.frame.specs.declared.frame.FrameFields.{FrameFields}
 use Rattle.frame.specs.declared.builder.FrameBuilder.{FrameBuilder}
 use Rattle.hpai.specs.Hpai as Hpai
 use Rattle.hpai.specs.declared.Hpai.{Hpai}
-use Rattle.constants.specs.declared.services.ServiceType.TheVariants as ServiceType
 use Rattle.connect.specs.Cri as Cri
 use Rattle.connect.specs.Request as ConnectRequest
 use Rattle.connect.specs.Response as ConnectResponse
@@ -60,7 +59,6 @@ use Rattle.tunnelling.specs.Request as TunnelingRequest
 use Rattle.tunnelling.specs.Ack as TunnelingAck
 use Rattle.tunnelling.specs.AckForm as AckForm
 use Rattle.tunnelling.specs.declared.form.Form.{Form}
-use Rattle.tunnelling.specs.declared.form.Form.TheVariants as Form
 use Rattle.tunnelling.specs.declared.connection.ConnectionHeader.{ConnectionHeader}
 use Rattle.tunnelling.specs.declared.request.TunnelingRequest.{TunnelingRequest}
 use Rattle.tunnelling.specs.declared.ack.TunnelingAck.{TunnelingAck}
@@ -85,7 +83,6 @@ use Rattle.tunnel_table.specs.Table.{CallPromise}
 use Rattle.tunnel_table.specs.Table as Table
 use Rattle.tunnel_table.specs.Compiled as Compiled
 use Rattle.tunnel_table.specs.declared.table.Table.{Table}
-use Rattle.tunnel_table.specs.declared.table.Called.{Called}
 use Rattle.tunnel_model.specs.Store.{step}
 use Rattle.tunnel_model.specs.Table.{chan, store_of, empty_of}
 use Rattle.tunnel_table.specs.Places.{Place, kind}

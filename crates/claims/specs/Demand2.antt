@@ -64,7 +64,6 @@ use Rattle.hpai.specs.Hpai as Hpai
 use Rattle.hpai.specs.HpaiLaws as HpaiLaws
 use Rattle.hpai.specs.declared.Hpai.{Hpai}
 use Rattle.wire.specs.Layout.{put}
-use Rattle.constants.specs.declared.services.ServiceType.TheVariants as ServiceType
 use Rattle.connect.specs.Cri as Cri
 use Rattle.connect.specs.CriLaws as CriLaws
 use Rattle.connect.specs.Request as ConnectRequest

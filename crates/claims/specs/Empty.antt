@@ -32,7 +32,6 @@ use Rattle.additional_info.specs.Area.{Info}
 use Rattle.additional_info.specs.Area as Area
 use Rattle.additional_info.specs.AppendingLaws as AppendingLaws
 use Rattle.additional_info.specs.declared.info_type.AdditionalInfoType.{AdditionalInfoType}
-use Rattle.additional_info.specs.declared.info_type.AdditionalInfoType.TheVariants as AdditionalInfoType
 use Rattle.claims.specs.AdditionalInfo.{info_told, Appends}
 use Rattle.claims.specs.Demand2.{ReadsBack, header, Builds, ldata_proper, ldata_bytes, ldata, LDataBuilds}
 use Rattle.claims.specs.Examples.{request, room}

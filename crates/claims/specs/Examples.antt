@@ -9,7 +9,6 @@ use Rattle.tunnel.specs.declared.rules.Tunnel.{Tunnel}
 use Rattle.tunnel.specs.declared.rules.Said.TheVariants.{Nothing, Repeat, Deliver, Duplicate, Sent}
 use Rattle.tunnelling.specs.declared.form.Form.TheVariants.{Crate}
 use Rattle.tunnel.specs.declared.rules.Arrival.{Arrival}
-use Rattle.tunnel.specs.declared.rules.Arrival.TheVariants as Arrival
 use Rattle.tunnel_model.specs.Store.{Seen, run, reached, names, table_trace, lone_trace, calls_of, seen}
 use Rattle.tunnel.specs.Numbers.{said_of}
 use Rattle.tunnel_model.specs.Calls.{Call, Open, Close, Timeout, Send, Datagram, refuses, says}

@@ -17,7 +17,6 @@ use Rattle.pci.specs.Transport as Transport
 use Rattle.pci.specs.declared.transport.Tpci.TheVariants as Tpci
 use Rattle.pci.specs.Application as Application
 use Rattle.pci.specs.declared.application.Apci.{Apci}
-use Rattle.pci.specs.declared.application.Apci.TheVariants as Apci
 use Rattle.ldata.specs.LData as LData
 use Rattle.ldata.specs.declared.ldata.LDataFields.{LDataFields}
 use Rattle.cemi.specs.Cemi as Cemi

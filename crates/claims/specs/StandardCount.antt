@@ -13,7 +13,6 @@ use Rattle.pci.specs.Application as Application
 use Rattle.pci.specs.declared.transport.Tpci.{Tpci}
 use Rattle.pci.specs.declared.transport.Tpci.TheVariants.{UnnumberedData, NumberedData, UnnumberedControl, NumberedControl}
 use Rattle.pci.specs.declared.application.Apci.{Apci}
-use Rattle.pci.specs.declared.application.Apci.TheVariants as Apci
 use Rattle.ldata.specs.Count.{crate_count, standard_count, count_by}
 use Rattle.ldata.specs.CountLaws.{lawful}
 use Rattle.ldata.specs.LData as LData

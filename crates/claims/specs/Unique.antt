@@ -64,7 +64,6 @@ use Rattle.tunnelling.specs.RequestLaws as TunnelingRequestLaws
 use Rattle.tunnelling.specs.Ack as TunnelingAck
 use Rattle.tunnelling.specs.AckForm as AckForm
 use Rattle.tunnelling.specs.declared.form.Form.{Form}
-use Rattle.tunnelling.specs.declared.form.Form.TheVariants as Form
 use Rattle.tunnelling.specs.AckLaws as TunnelingAckLaws
 use Rattle.inspection.specs.Scanning as Scanning
 use Rattle.inspection.specs.ScanningLaws as ScanningLaws
@@ -1140,7 +1139,7 @@ replay_replay input out after later calls left last none p q = (same (p none).0 
 
 -- replay::telegram
 pub replay_telegram : One₃ Telegrams.TelegramPromise
-replay_telegram f view data r q = same
+replay_telegram f view bytes r q = same
 
 -- replay::asks
 pub replay_asks : One Telegrams.AsksPromise
