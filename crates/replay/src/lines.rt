@@ -1,4 +1,4 @@
-// The line of what a call told. A piece that does not fit is left out, and the line then differs from the one expected.
+// The line of what a call told. A piece that does not fit is left out, and the line then differs from the one expected: `LinePromise` says so, and std's formatting would write a part of it.
 ghost use Rattle.std.specs.Prelude.{◌≤◌, length, map};
 ghost use Rattle.digits.specs.Digits.{decimal};
 ghost use Rattle.replay.specs.Lines as ReplayLines;

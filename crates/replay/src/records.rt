@@ -4,7 +4,7 @@ ghost use Rattle.replay.specs.Records.{Number24Promise, FillPromise, NextPromise
 use crate::lines;
 use std::io::Read;
 
-// A call, how many argument bytes it has and how many it lends.
+// A call, how many argument bytes it has and how many it lends: counts, since slices of both buffers would have to be lent with it.
 #[derive(Clone, Copy)]
 pub struct Record {
     pub call: u8,

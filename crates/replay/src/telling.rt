@@ -3,6 +3,7 @@ ghost use Rattle.replay.specs.Telling.{RefusedPromise, FewPromise, LocatedPromis
 
 use wire::{Fault, Refusal};
 
+// What a line shows, refused or not, so that no Result is plainer; no heap is used, so that fixed arrays have their counts beside them.
 // A number of 01 and the first `count` of the values; `lends` where the buffer is shown too; the offsets of the refusals that the line tells.
 #[derive(Clone, Copy)]
 pub struct Told {

@@ -86,10 +86,7 @@ fn header_body_length(args: &[u8]) -> Told {
 }
 
 fn frame_parse(args: &[u8]) -> Told {
-    match frame(args) {
-        Ok(t) => t,
-        Err(fault) => replay::refused(fault, 13),
-    }
+    frame(args).unwrap_or_else(|fault| replay::refused(fault, 13))
 }
 
 // What the accessors tell of a frame that is parsed, and the parts that are handed out: the body by the record that holds its slice.

@@ -83,10 +83,7 @@ fn append(args: &[u8], buf: &mut [u8]) -> Told {
 }
 
 fn area(args: &[u8]) -> Told {
-    match shown(args) {
-        Ok(t) => t,
-        Err(fault) => replay::refused(fault, 3),
-    }
+    shown(args).unwrap_or_else(|fault| replay::refused(fault, 3))
 }
 
 fn shown(args: &[u8]) -> Result<Told, Fault> {

@@ -30,10 +30,7 @@ impl Calls for TelegramCalls {
 
 // What is told, or a refusal, with zeros for the values.
 fn told(answer: Result<Told, Fault>, count: usize) -> Told {
-    match answer {
-        Ok(t) => t,
-        Err(fault) => replay::refused(fault, count),
-    }
+    answer.unwrap_or_else(|fault| replay::refused(fault, count))
 }
 
 // The data's bytes come by the record that borrows them.

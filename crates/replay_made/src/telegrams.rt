@@ -37,10 +37,9 @@ fn info_length(answer: Result<u8, Fault>) -> Told {
 }
 
 pub(crate) fn as_ldata(args: &[u8]) -> Told {
-    match inside(frame_at(args), wire::part(args, 1, args.len())) {
-        Ok(t) => t,
-        Err(fault) => replay::refused(fault, 12),
-    }
+    inside(frame_at(args), wire::part(args, 1, args.len())).unwrap_or_else(|fault| replay::refused(
+        fault, 12,
+    ))
 }
 
 // The fields, and where the data stands in the whole.

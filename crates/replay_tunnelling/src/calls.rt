@@ -44,10 +44,7 @@ fn request_build(args: &[u8], buf: &mut [u8]) -> Told {
 }
 
 fn request_parse(args: &[u8]) -> Told {
-    match request(args) {
-        Ok(t) => t,
-        Err(fault) => replay::refused(fault, 5),
-    }
+    request(args).unwrap_or_else(|fault| replay::refused(fault, 5))
 }
 
 fn request(args: &[u8]) -> Result<Told, Fault> {
