@@ -74,6 +74,7 @@ fn past(area: &[u8], n: usize) -> Walked
 {
     let mut records = 0;
     let mut at = 0;
+    // No `for`: a turn counts on by as many records as it found, and the next starts behind them.
     while records < n {
         let most = (n - records).min(MOST);
         let next = walk(wire::part(area, at, area.len()), most);
@@ -86,7 +87,7 @@ fn past(area: &[u8], n: usize) -> Walked
     Walked { records, at }
 }
 
-// After one record, what remains is an area read by the same rule.
+// After one record, what remains is an area read by the same rule: 01 names this recursion, so it is no iterator.
 fn walk(area: &[u8], n: usize) -> Walked
     ensures { WalkPromise n area.now result }
 {

@@ -14,6 +14,7 @@ pub enum AdditionalInfoType {
 }
 
 impl AdditionalInfoType {
+    // Not From: 01 and the published crate name from_u8 and to_u8, and a second name would say the same twice.
     pub fn from_u8(value: u8) -> AdditionalInfoType
         ensures { FromPromise value result }
     {

@@ -1,4 +1,4 @@
-// Keeping a channel alive and closing it: two requests of one shape, two responses of one shape.
+// Keeping a channel alive and closing it: two requests of one shape, two responses of one shape. They stay four types, with the published crate's names and fields, so that none passes for another; what they share is at the end.
 ghost use Rattle.connect.specs.Channel.{StateNewPromise, StateBuildPromise, StateParsePromise, StateIsOkPromise, DisconnectNewPromise, DisconnectBuildPromise, DisconnectParsePromise, DisconnectIsOkPromise, RequestPromise, StatusPromise, DisconnectRequestParsePromise, DisconnectResponseNewPromise, DisconnectResponseBuildPromise};
 
 use crate::endpoint;

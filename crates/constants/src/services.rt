@@ -26,6 +26,7 @@ pub enum ServiceType {
 }
 
 impl ServiceType {
+    // Not TryFrom: 01 and the published crate name from_u16 and to_u16, and a second name would say the same twice.
     pub fn from_u16(code: u16) -> Result<ServiceType, Fault>
         ensures { FromPromise code result }
     {

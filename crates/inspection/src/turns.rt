@@ -3,7 +3,7 @@ ghost use Rattle.inspection.specs.Turns.{BeginPromise, WrittenOutPromise, ReadOn
 
 use crate::scanning::Spot;
 
-// Where the scan is, and how far the input buffer is read.
+// Where the scan is, and how far the input buffer is read: fixed memory, so the buffer's length says only how much fits.
 #[derive(Clone, Copy)]
 pub struct Progress {
     pub spot: Spot,

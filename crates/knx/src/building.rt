@@ -55,7 +55,7 @@ pub fn knx_ldata_build(
     )
 }
 
-// In KNX's own count, and for control packets too, whose control code stands in the place of the APCI code.
+// Its own name for C: in KNX's own count, and for control packets too, whose control code stands in the place of the APCI code.
 pub fn knx_ldata_build_standard(
     control_1: u8,
     control_2: u8,
@@ -90,6 +90,7 @@ pub fn knx_connect_request(control: KnxEndpoint, data: KnxEndpoint, out: &mut [u
     written(request.build(out))
 }
 
+// Its own name for C, as the next.
 pub fn knx_connectionstate_request(channel: u8, control: KnxEndpoint, out: &mut [u8]) -> KnxWritten
     ensures { ConnectionStateRequestPromise channel control out.old result out.new }
 {
@@ -117,7 +118,7 @@ pub fn knx_tunneling_ack(channel: u8, sequence: u8, status: u8, out: &mut [u8]) 
     tunneling_ack_in(Form::Crate, channel, sequence, status, out)
 }
 
-// In KNX's own form.
+// Its own name for C: in KNX's own form.
 pub fn knx_tunneling_ack_standard(
     channel: u8,
     sequence: u8,

@@ -7,7 +7,7 @@ use tunnel_table::{Called, Table};
 use tunnelling::Form;
 use wire::{Fault, Refusal};
 
-// A number of 01 and, beside 0, what is said, the view and the count of bytes written to the output; else the offset of the field that decided.
+// C has no Result. A number of 01 and, beside 0, what is said, the view and the count of bytes written to the output; else the offset of the field that decided.
 #[repr(C)]
 #[derive(Clone, Copy)]
 pub struct KnxCalled {
@@ -67,7 +67,7 @@ pub fn knx_table_datagram(image: &mut [u8], bytes: &[u8], out: &mut [u8]) -> Knx
     table_datagram_in(Form::Crate, image, bytes, out)
 }
 
-// With acknowledgements in KNX's own form, both ways.
+// Its own name for C: with acknowledgements in KNX's own form, both ways.
 pub fn knx_table_datagram_standard(image: &mut [u8], bytes: &[u8], out: &mut [u8]) -> KnxCalled
     ensures { DatagramStandardPromise image.old bytes.now out.old result image.new out.new }
 {

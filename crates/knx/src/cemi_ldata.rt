@@ -8,7 +8,7 @@ use cemi::CEMIFrame;
 use ldata::{Counting, LDataFields};
 use wire::Fault;
 
-// A number of 01 and, beside 0, the fields of cEMI and L_Data, and where the data stands in the cEMI bytes; else the offset of the field that decided.
+// C has no Result. A number of 01 and, beside 0, the fields of cEMI and L_Data, and where the data stands in the cEMI bytes; else the offset of the field that decided.
 #[repr(C)]
 #[derive(Clone, Copy)]
 pub struct KnxLData {
@@ -36,6 +36,7 @@ pub fn knx_cemi_ldata(data: &[u8]) -> KnxLData
     ldata_in(Counting::Crate, data)
 }
 
+// Its own name for C: in KNX's own count.
 pub fn knx_cemi_ldata_standard(data: &[u8]) -> KnxLData
     ensures { CemiLDataStandardPromise «data».now result }
 {

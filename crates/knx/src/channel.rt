@@ -4,7 +4,7 @@ ghost use Rattle.knx.specs.Channel.{StatusPromise, NoStatusPromise, DisconnectRe
 use connect::{ConnectionStateResponse, DisconnectRequest};
 use wire::Fault;
 
-// A number of 01 and, beside 0, a channel and its status; else the offset of the field that decided.
+// C has no Result. A number of 01 and, beside 0, a channel and its status; else the offset of the field that decided.
 #[repr(C)]
 #[derive(Clone, Copy)]
 pub struct KnxStatus {
@@ -14,7 +14,7 @@ pub struct KnxStatus {
     pub number: u8,
 }
 
-// A number of 01 and, beside 0, a channel and the gateway's control endpoint; else the offset of the field that decided.
+// C has no Result. A number of 01 and, beside 0, a channel and the gateway's control endpoint; else the offset of the field that decided.
 #[repr(C)]
 #[derive(Clone, Copy)]
 pub struct KnxDisconnectRequest {
@@ -27,6 +27,7 @@ pub struct KnxDisconnectRequest {
     pub number: u8,
 }
 
+// Its own name for C, as the next.
 pub fn knx_connectionstate_response(body: &[u8]) -> KnxStatus
     ensures { StatusPromise body.now result }
 {

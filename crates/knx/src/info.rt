@@ -10,7 +10,7 @@ use cemi::CEMIFrame;
 use constants::CEMIMessageCode;
 use wire::{Fault, View};
 
-// A number of 01 and, beside 0, a part of the input; else the offset of the field that decided.
+// C has no Result. A number of 01 and, beside 0, a part of the input; else the offset of the field that decided.
 #[repr(C)]
 #[derive(Clone, Copy)]
 pub struct KnxPart {
@@ -35,7 +35,7 @@ pub struct KnxAdditionalInfo {
     pub number: u8,
 }
 
-// A number of 01 and, beside 0, how many there are; else the offset of the field that decided.
+// C has no Result. A number of 01 and, beside 0, how many there are; else the offset of the field that decided.
 #[repr(C)]
 #[derive(Clone, Copy)]
 pub struct KnxCount {

@@ -1,4 +1,5 @@
 // The C border: the calls that a host makes often, over numbers and lent bytes. Each is thin over a proved function of a crate below; include/knx.h declares them.
+// C has no generic function and no enum of a fixed size: a twin in KNX's own count or form has a name of its own, as include/knx.h has it.
 #![tactic(auto)]
 
 mod building;

@@ -6,7 +6,7 @@ use header::KnxnetIpHeader;
 use hpai::Hpai;
 use wire::Fault;
 
-// A number of 01 and, beside 0, where the body stands, the service and the total length; else the offset of the field that decided.
+// C has no Result. A number of 01 and, beside 0, where the body stands, the service and the total length; else the offset of the field that decided.
 #[repr(C)]
 #[derive(Clone, Copy)]
 pub struct KnxFrame {
@@ -18,7 +18,7 @@ pub struct KnxFrame {
     pub number: u8,
 }
 
-// A number of 01 and, beside 0, the fields of an Hpai; else the offset of the field that decided.
+// C has no Result. A number of 01 and, beside 0, the fields of an Hpai; else the offset of the field that decided.
 #[repr(C)]
 #[derive(Clone, Copy)]
 pub struct KnxHpai {
@@ -30,7 +30,7 @@ pub struct KnxHpai {
     pub number: u8,
 }
 
-// A number of 01 and, beside 0, the fields of a connect response; else the offset of the field that decided.
+// C has no Result. A number of 01 and, beside 0, the fields of a connect response; else the offset of the field that decided.
 #[repr(C)]
 #[derive(Clone, Copy)]
 pub struct KnxConnectResponse {
@@ -100,7 +100,7 @@ pub fn knx_connect_response(body: &[u8]) -> KnxConnectResponse
     response_as(ConnectResponse::parse(body))
 }
 
-// In KNX's own form, in which a response that refuses ends behind its status.
+// Its own name for C: in KNX's own form, in which a response that refuses ends behind its status.
 pub fn knx_connect_response_standard(body: &[u8]) -> KnxConnectResponse
     ensures { ConnectResponseStandardPromise body.now result }
 {

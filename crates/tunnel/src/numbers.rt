@@ -1,4 +1,4 @@
-// What is said and what is waited for as numbers: at the C border, and in a table's image.
+// What is said and what is waited for as numbers: at the C border, and in a table's image. C has no enum with a fixed size, so the numbers stand beside the names here and in include/knx.h.
 ghost use Rattle.tunnel.specs.Numbers.{SaidNumberPromise, WaitNumberPromise, WaitFromPromise};
 
 use crate::rules::{Said, Wait};

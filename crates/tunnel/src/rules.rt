@@ -19,7 +19,7 @@ pub struct Tunnel {
     pub w: Wait,
 }
 
-// The quoted answers; `Nothing` where 01 gives a number alone.
+// The quoted answers; `Nothing` where 01 gives a number alone. Not an Option of a Said: include/knx.h and `Numbers.said_of` number the eight together, from 0.
 #[derive(Clone, Copy)]
 pub enum Said {
     Nothing,

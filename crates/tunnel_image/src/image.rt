@@ -13,16 +13,7 @@ pub const SIZE: usize = 40;
 pub fn unpack(image: &[u8]) -> Table
     ensures { UnpackPromise image.now result }
 {
-    let places = [
-        place_at(image, 0),
-        place_at(image, 5),
-        place_at(image, 10),
-        place_at(image, 15),
-        place_at(image, 20),
-        place_at(image, 25),
-        place_at(image, 30),
-        place_at(image, 35),
-    ];
+    let places = std::array::from_fn(|i| place_at(image, i * 5));
     Table { places }
 }
 

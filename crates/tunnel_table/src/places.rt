@@ -13,7 +13,7 @@ pub struct Held {
     pub tunnel: Tunnel,
 }
 
-// The first place with this id, none for a free place: an id that stands twice means its first place.
+// The first place with this id, none for a free place: an id that stands twice means its first place. 01 names the form: a loop that yields the place by break.
 pub(crate) fn find(places: [Option<Held>; 8], id: Option<u8>) -> Option<Spot>
     ensures { FindPromise places id result }
 {
@@ -33,28 +33,19 @@ pub(crate) fn find(places: [Option<Held>; 8], id: Option<u8>) -> Option<Spot>
 fn passes(place: Option<Held>, id: Option<u8>) -> bool
     ensures { result ≡ passing id place }
 {
-    match place {
-        Some(held) => id == Some(held.id),
-        None => id.is_none(),
-    }
+    place.map(|held| held.id) == id
 }
 
 // A free place counts as a fresh tunnel; no call looks there.
 pub(crate) fn tunnel_in(place: Option<Held>) -> Tunnel
     ensures { result ≡ tunnel_in place }
 {
-    match place {
-        Some(held) => held.tunnel,
-        None => Tunnel::fresh(),
-    }
+    place.map_or(Tunnel::fresh(), |held| held.tunnel)
 }
 
 // What a place holds after a step of its channel.
 pub(crate) fn left_in(id: u8, left: Option<Tunnel>) -> Option<Held>
     ensures { result ≡ left_in id left }
 {
-    match left {
-        Some(tunnel) => Some(Held { id, tunnel }),
-        None => None,
-    }
+    left.map(|tunnel| Held { id, tunnel })
 }

@@ -1,4 +1,4 @@
-// The variants by the numbers that recorded calls and their lines have for them, 1 and up in the order of 01, for APCI and additional information in that of cemi.rs. They are no codes of KNX: each has a match of its own, so that two variants in each other's place are seen.
+// Numbers for kinds, since a record of bytes has no other form: the variants by the numbers that recorded calls and their lines have for them, 1 and up in the order of 01, for APCI and additional information in that of cemi.rs. They are no codes of KNX: each has a match of its own, so that two variants in each other's place are seen.
 #![tactic(auto)]
 
 ghost use Rattle.variants.specs.Variants.{ServicePromise, ServiceOfPromise, MessageCodePromise, MessageCodeOfPromise, PriorityPromise, PriorityOfPromise, ApciPromise, ApciOfPromise, InfoTypePromise, KindPromise, SequencePromise, TpciOfPromise, RefusalOfPromise};

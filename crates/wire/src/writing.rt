@@ -15,7 +15,7 @@ pub fn write(bytes: &[u8], buf: &mut [u8]) -> Result<usize, Refusal>
     Ok(bytes.len())
 }
 
-// Writes three pieces, one behind another, at the start of buf. Their lengths are asked without a sum that could wrap.
+// Writes three pieces, one behind another, at the start of buf; two functions, since a list of pieces would be walked by its index. Their lengths are asked without a sum that could wrap.
 pub fn write3(a: &[u8], b: &[u8], c: &[u8], buf: &mut [u8]) -> Result<usize, Refusal>
     ensures { Write3Promise a.now b.now c.now buf.old result buf.new }
 {
