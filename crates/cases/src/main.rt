@@ -85,7 +85,7 @@ fn areas(rt: &impl Print, zeros: &[u8; 524289]) {
 }
 
 fn main(rt: HostRuntime) {
-    // As in `replay::run`, which is for programs that read records: arguments are not read, so no room is lent for them.
+    // As in `Calls::run` of `replay`, which is for programs that read records: arguments are not read, so no room is lent for them.
     if !matches!(rt.arg(1, &mut []), Err(FillError::NotPresent)) {
         let _ = eprintln!(rt; "usage: cases");
         return;
