@@ -39,6 +39,10 @@ body_in s f r p q = q ∙ ap (body_of (Ok f.fields)) p.0 ∙ parsed_body s f.fie
 pub borrows_none : (s : List ℕ) (r : Result KnxnetIpFrame Fault) (e : Fault) → ParsePromise s r → r ≡ Err e → borrowed_of r ≡ []
 borrows_none s r e p q = ap borrowed_of q
 
+-- and of a refused answer no byte is a body
+pub refused_body : (s : List ℕ) (a : Result FrameFields Fault) (e : Fault) (r : List ℕ) → a ≡ Err e → r ≡ body_of a s → r ≡ []
+refused_body s a e r q p = p ∙ ap (λ (b : Result FrameFields Fault). body_of b s) q ∙ empty_part s
+
 -- of a datagram that is refused no byte is handed out
 pub body-none : (s : List ℕ) (e : Fault) → Frame.ParsePromise s (Err e) → [] ≡ shown s (judged (cs s) (viewed 6 (total_in (get fields 0 s))))
 body-none s e p = sym (ap (shown s) (let_refuse (cs s) (viewed 6 (total_in (get fields 0 s))) e.why (was_refused (cs s) (told s) 4 e refl p)) ∙ empty_part s)

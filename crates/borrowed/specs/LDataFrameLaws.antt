@@ -97,6 +97,10 @@ data_in_lem c s f r p q = q ∙ ap (data_of_in (count_by c) (Ok f.fields)) p.0 �
 pub borrows_none : (c : Counting) (s : List ℕ) (r : Result LDataFrame Fault) (e : Fault) → ParseInPromise c s r → r ≡ Err e → borrowed_of r ≡ []
 borrows_none c s r e p q = ap borrowed_of q
 
+-- and of a refused answer no byte is data
+pub refused_answer : (c : Counting) (s : List ℕ) (a : Result LDataFields Fault) (e : Fault) (r : List ℕ) → a ≡ Err e → r ≡ data_of_in (count_by c) a s → r ≡ []
+refused_answer c s a e r q p = p ∙ ap (λ (b : Result LDataFields Fault). data_of_in (count_by c) b s) q ∙ empty_part s
+
 -- the view of a refused record tells that refusal
 pub view_none : (c : Counting) (s : List ℕ) (a : Result LDataFields Fault) (e : Fault) (r : Result View Fault) → a ≡ Err e → DataViewInPromise c s a r → Parts.told r ≡ refused 0 e
 view_none c s a e r q p = p ∙ ap (λ (b : Result LDataFields Fault). view_in (count_by c) b s) q

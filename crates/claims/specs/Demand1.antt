@@ -478,8 +478,11 @@ pub knxnet_ip_borrows : (s : List ℕ) (r : Result KnxnetIpFrame Fault) (e : Fau
 knxnet_ip_borrows = KnxnetIpFrameLaws.borrows_none
 
 -- borrowed::KnxnetIpFrame::body
-pub knxnet_ip_body : (f : KnxnetIpFrame) (e : Fault) (r : List ℕ) → KnxnetIpFrame.BodyViewPromise f.«data».now (Ok f.fields) (Err e) → KnxnetIpFrame.BodyPromise f r → r ≡ []
-knxnet_ip_body = KnxnetIpFrameLaws.body_refused
+pub knxnet_ip_body_part : (f : KnxnetIpFrame) (e : Fault) (r : List ℕ) → KnxnetIpFrame.BodyViewPromise f.«data».now (Ok f.fields) (Err e) → KnxnetIpFrame.BodyPromise f r → r ≡ []
+knxnet_ip_body_part = KnxnetIpFrameLaws.body_refused
+
+pub knxnet_ip_body : (s : List ℕ) (a : Result FrameFields Fault) (e : Fault) (r : List ℕ) → a ≡ Err e → r ≡ KnxnetIpFrame.body_of a s → r ≡ []
+knxnet_ip_body = KnxnetIpFrameLaws.refused_body
 
 -- borrowed::body_view
 pub knxnet_ip_body_view : (s : List ℕ) (a : Result FrameFields Fault) (r : Result View Fault) → KnxnetIpFrame.BodyViewPromise s a r → Refusing (Parts.told r)
@@ -504,12 +507,15 @@ pub ldata_frame_parse : (s : List ℕ) (e : Fault) → LDataFrame.ParsePromise s
 ldata_frame_parse = ldata_frame_parse_in Crate
 
 -- borrowed::LDataFrame::data_in
-pub ldata_frame_data_of : (c : Counting) (f : LDataFrame) (e : Fault) (r : List ℕ) → LDataFrame.DataViewInPromise c f.«data».now (Ok f.fields) (Err e) → LDataFrame.FrameDataInPromise c f r → r ≡ []
-ldata_frame_data_of = LDataFrameLaws.data_refused
+pub ldata_frame_data_part : (c : Counting) (f : LDataFrame) (e : Fault) (r : List ℕ) → LDataFrame.DataViewInPromise c f.«data».now (Ok f.fields) (Err e) → LDataFrame.FrameDataInPromise c f r → r ≡ []
+ldata_frame_data_part = LDataFrameLaws.data_refused
+
+pub ldata_frame_data_of : (c : Counting) (s : List ℕ) (a : Result LDataFields Fault) (e : Fault) (r : List ℕ) → a ≡ Err e → r ≡ LDataFrame.data_of_in (count_by c) a s → r ≡ []
+ldata_frame_data_of = LDataFrameLaws.refused_answer
 
 -- borrowed::LDataFrame::data
 pub ldata_frame_data : (f : LDataFrame) (e : Fault) (r : List ℕ) → LDataFrame.DataViewPromise f.«data».now (Ok f.fields) (Err e) → LDataFrame.DataPromise f r → r ≡ []
-ldata_frame_data = ldata_frame_data_of Crate
+ldata_frame_data = ldata_frame_data_part Crate
 
 -- borrowed::data_view_in
 pub ldata_frame_data_view_in : (c : Counting) (s : List ℕ) (a : Result LDataFields Fault) (r : Result View Fault) → LDataFrame.DataViewInPromise c s a r → Refusing (Parts.told r)
