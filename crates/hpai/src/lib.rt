@@ -54,6 +54,7 @@ impl Hpai {
     }
 
     // Writes the fields as they are, the length too.
+    // Alike in the three records that have it: a trait would be longer than these two lines, and `EncodePromise` is of each.
     pub fn encode(self, buf: &mut [u8]) -> Result<usize, Refusal>
         ensures { EncodePromise self buf.old result buf.new }
     {

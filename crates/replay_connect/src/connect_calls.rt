@@ -104,6 +104,7 @@ pub(crate) fn state_build(args: &[u8], buf: &mut [u8]) -> Told {
     ).build(buf))
 }
 
+// As disconnect_parse, of another type: each call of the comparison has its function.
 pub(crate) fn state_parse(args: &[u8]) -> Told {
     match ConnectionStateResponse::parse(args) {
         Ok(c) => status(c.channel_id, c.status, c.is_ok()),

@@ -42,7 +42,7 @@ pub(crate) fn as_ldata(args: &[u8]) -> Told {
     ))
 }
 
-// The fields, and where the data stands in the whole.
+// The fields, and where the data stands in the whole; as in replay_ldata, but by the functions that are given no count.
 fn inside(f: CEMIFrame, slice: &[u8]) -> Result<Told, Fault> {
     let l = f.as_ldata(slice)?;
     let info = f.service_info(slice)?;

@@ -38,7 +38,7 @@ pub fn word_at(s: &[u8], at: usize) -> u16
     }
 }
 
-// Copies all of src into dst from a place on; writes nothing where it does not fit.
+// Copies all of src into dst from a place on; writes nothing where it does not fit: `copy_from_slice` alone would ask that of its caller.
 pub fn copy_at(src: &[u8], dst: &mut [u8], at: usize)
     ensures { CopyPromise src.now dst.old at dst.new }
 {
