@@ -1,6 +1,6 @@
 -- One law of the reader for each way out of its code. Assumes nothing.
 use Rattle.std.specs.Prelude.{ℕ, zero, suc, ◌+◌, ◌-◌, ◌<◌, ◌≤◌, ◌≡◌, refl, Bool, true, false, cond, List, [], ◌∷◌, ◌++◌, length, take, drop, get_or, ltb, min, Ok, Err, Option, Some, None}
-use Rattle.std.proofs.Common.{arith, sym, ap, ◌∙◌, append-nil, length-append, length-drop, lt-ltb, le-ltb, ltb-false, eq-eqb, ne_eqb}
+use Rattle.std.proofs.Common.{arith, sym, ap, ◌∙◌, append-nil, length-append, length-drop, lt-ltb, le-ltb, eq-eqb, ne_eqb}
 use Rattle.wire.specs.Clash.{never}
 use Rattle.wire.specs.Told.{done, refused, nowhere}
 use Rattle.wire.specs.ToldLaws.{let_pass, let_refuse}

@@ -1,5 +1,5 @@
 -- One law of `AreaSteps` for each way out. Assumes nothing.
-use Rattle.additional_info.specs.AreaSteps.{nth_none, nth_stands, nth_read, nth_refused}
+use Rattle.additional_info.specs.AreaSteps.{nth_stands, nth_read}
 use Rattle.additional_info.proofs.area.nth.Goals as goal
 
 pub record_at-requires : goal.record_at-requires

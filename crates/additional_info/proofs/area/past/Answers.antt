@@ -1,5 +1,5 @@
 -- `past`: what the loop keeps, and that its contract follows. Assumes nothing.
-use Rattle.std.proofs.Common.{arith, ◌≡◌}
+use Rattle.std.proofs.Common.{arith}
 use Rattle.additional_info.specs.AreaSteps.{walk_none, Turn, turn}
 use Rattle.additional_info.proofs.area.past.Goals as goal
 use Rattle.additional_info.proofs.area.past.Goals.{After-walk-next}
@@ -16,13 +16,6 @@ loop-records-init c = (omega arith, walk_none c.args.area.now)
 
 pub overflow_add-records : goal.overflow_add-records
 overflow_add-records c = omega (arith, (turned (goal.at.overflow_add-records c).After-walk-next).most)
-
-pub overflow_add-at : goal.overflow_add-at
-overflow_add-at c = omega (arith, (turned (goal.at.overflow_add-at c).After-walk-next).within)
-
-pub loop-records-smaller : goal.loop-records-smaller
-loop-records-smaller c =
-    let t = turned (goal.at.loop-records-smaller c).After-walk-next in omega (arith, t.most, t.falls c.if-next-most.false)
 
 pub loop-records-preserved : goal.loop-records-preserved
 loop-records-preserved c =
