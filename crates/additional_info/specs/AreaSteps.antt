@@ -195,12 +195,6 @@ nth_nowhere s n = go (ltb n (length (all_in s)))
     go true = refl
     go false = refl
 
--- behind the last record there is none
-pub nth_none : (s : List ℕ) (n m : ℕ) → CountPromise s (Ok m) → m ≤ n → NthPromise s n (Ok None)
-nth_none s n m p h =
-    let k = counted s m p in
-    sym (located_pass (area_check s ∷ []) (area_offsets s) (nth_in s n) refl (nth_nowhere s n) k.0 ∙ simp (le-ltb n (length (all_in s)) (omega (arith, k.1))))
-
 -- one stands at the place behind n others, and is read there
 pub nth_stands : (s : List ℕ) (n m : ℕ) (r : Walked) → CountPromise s (Ok m) → n < m → WalkPromise n s r → stands (drop r.at s) ≡ true
 nth_stands s n m r p h w =

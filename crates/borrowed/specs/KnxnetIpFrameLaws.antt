@@ -3,7 +3,7 @@ use Rattle.std.specs.Prelude.{ℕ, ◌≡◌, refl, List, [], length, Result, Ok
 use Rattle.std.proofs.Common.{sym, ap, ◌∙◌}
 use Rattle.wire.specs.Clash.{never}
 use Rattle.wire.specs.Told.{Told, done, refused, viewed, Check, judged}
-use Rattle.wire.specs.ToldLaws.{same, let_refuse, let_through, was_refused}
+use Rattle.wire.specs.ToldLaws.{same, let_through}
 use Rattle.wire.specs.Layout.{get}
 use Rattle.wire.specs.Parts.{shown}
 use Rattle.wire.specs.Parts as Parts
@@ -42,10 +42,6 @@ borrows_none s r e p q = ap borrowed_of q
 -- and of a refused answer no byte is a body
 pub refused_body : (s : List ℕ) (a : Result FrameFields Fault) (e : Fault) (r : List ℕ) → a ≡ Err e → r ≡ body_of a s → r ≡ []
 refused_body s a e r q p = p ∙ ap (λ (b : Result FrameFields Fault). body_of b s) q ∙ empty_part s
-
--- of a datagram that is refused no byte is handed out
-pub body-none : (s : List ℕ) (e : Fault) → Frame.ParsePromise s (Err e) → [] ≡ shown s (judged (cs s) (viewed 6 (total_in (get fields 0 s))))
-body-none s e p = sym (ap (shown s) (let_refuse (cs s) (viewed 6 (total_in (get fields 0 s))) e.why (was_refused (cs s) (told s) 4 e refl p)) ∙ empty_part s)
 
 -- the view of a refused record tells that refusal
 pub view_none : (s : List ℕ) (a : Result FrameFields Fault) (e : Fault) (r : Result View Fault) → a ≡ Err e → BodyViewPromise s a r → Parts.told r ≡ refused 0 e

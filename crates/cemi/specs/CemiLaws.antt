@@ -58,15 +58,6 @@ too_short s a e h = simp (lt-ltb (length s) (2 + info_length s) (omega (arith, e
 pub long_enough : (s : List ℕ) (a : ℕ) → a ≡ info_length s → 2 + a ≤ length s → verdict (info_check s ∷ []) ≡ Ok tt
 long_enough s a e h = simp (le-ltb (length s) (2 + info_length s) (omega (arith, e)))
 
--- where the service information starts was refused, or told
-pub start-short : (s : List ℕ) (e : Fault) → ServiceStartPromise s (Err e) → (e ≡ past_end) × (standing (info_check s ∷ []) (info_offset ∷ []) ≡ Err past_end)
-start-short s e p = go (ltb (length s) (2 + info_length s)) refl p
-  where
-    go : (b : Bool) → ltb (length s) (2 + info_length s) ≡ b → Err e ≡ cond b (Err past_end) (Ok (2 + info_length s))
-        → (e ≡ past_end) × (standing (info_check s ∷ []) (info_offset ∷ []) ≡ Err past_end)
-    go true h q = (cc, simp h)
-    go false h q = never cc
-
 pub start-told : (s : List ℕ) (n : ℕ) → ServiceStartPromise s (Ok n) → (n ≡ 2 + info_length s) × (verdict (info_check s ∷ []) ≡ Ok tt)
 start-told s n p = go (ltb (length s) (2 + info_length s)) refl p
   where

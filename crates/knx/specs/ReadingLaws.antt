@@ -36,13 +36,6 @@ judged-frame s j p =
     ap (λ (t : Told). record { number = 0; values = t.values; start = 6; end = get_or t.values 1 0; offset = 0 }) same-values
     ∙ sym (located_pass cs (Frame.offsets (length s)) (frame_in vs) refl refl passed)
 
--- of a refused frame no bounds
-pub refused-frame : (s : List ℕ) (e : Fault) → Judging.JudgePromise s (Err e) → refused 2 e ≡ frame_where s
-refused-frame s e p =
-    let vs : List ℕ = get fields 0 s in
-    let cs : List Check = Frame.checks (length s) vs in
-    sym (located_fall cs (Frame.offsets (length s)) (frame_in vs) e (was_fallen cs (Frame.offsets (length s)) (done (service_in vs ∷ total_in vs ∷ [])) 2 e refl p))
-
 -- the view of a frame is the one that `FrameFields::body` answers
 pub body_as : (s : List ℕ) (r : KnxFrame) (f : FrameFields) (v : Result View Fault) → FramePromise s r → Frame.ParsePromise s (Ok f) → Frame.BodyPromise f s v
     → v ≡ Ok (record { start = r.start; end = r.end })

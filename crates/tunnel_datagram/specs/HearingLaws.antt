@@ -95,11 +95,6 @@ module _ (f : Form) where
       ap (λ (ws : List ℕ). in_frame f (service_in ws) (total_in ws) (part_of s 6 (total_in ws))) read
       ∙ ap (λ (v : Standing). heard_or v (in_frame f (service_in vs) (total_in vs) (part_of s 6 (total_in vs)))) (sym (stood cs (Frame.offsets (length s)) (done vs) u refl p))
 
-  pub not_framed : (s : List ℕ) (e : Fault) → Frame.ParsePromise s (Err e) → Err e ≡ heard_in f s
-  not_framed s e p =
-      let vs : List ℕ = get fields 0 s in
-      ap (λ (v : Standing). heard_or v (in_frame f (service_in vs) (total_in vs) (part_of s 6 (total_in vs)))) (sym (was_fallen (Frame.checks (length s) vs) (Frame.offsets (length s)) (done vs) 4 e refl p))
-
 -- ---- no second answer
 
 abbrev made : ℕ → List ℕ → Result Heard Fault
