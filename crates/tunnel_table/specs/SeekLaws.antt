@@ -11,9 +11,6 @@ module _ (q : Place → Bool) (l : List Place) (d : Place) (i : ℕ) (h : i < le
   pub seek_turn : q (get_or l i d) ≡ false → seek q i (drop i l) ≡ seek q (i + 1) (drop (i + 1) l)
   seek_turn e = rw (add-one i, drop-cons l i d h, e)
 
-  pub seek_hit : q (get_or l i d) ≡ true → seek q i (drop i l) ≡ Some i
-  seek_hit e = rw (drop-cons l i d h, e)
-
 pub seek_end : (q : Place → Bool) (l : List Place) (i : ℕ) → length l ≤ i → seek q i (drop i l) ≡ None
 seek_end q l i h = rw (drop_of_length-le l h)
 

@@ -1,33 +1,8 @@
 -- The header is written first, and each part is copied right behind what stands. Assumes nothing.
-use Rattle.std.proofs.Common.{ℕ, ◌+◌, ap, sym, ◌∙◌, [], ◌∷◌, ◌++◌, arith, lt-ltb, le-ltb, ltb-false, ltb, length}
+use Rattle.std.proofs.Common.{ℕ, ◌+◌, ap, sym, ◌∙◌, [], ◌∷◌, ◌++◌, arith, le-ltb, ltb-false, ltb, length}
 use Rattle.wire.specs.Told.{done}
 use Rattle.frame.specs.WriteLaws.{sum_of, laid}
 use Rattle.frame.proofs.write.write_frame3.Goals as goal
-
-pub returns-then-short : goal.returns-then-short
-returns-then-short c =
-    let a = c.args in
-    let asked = ap (λ (k : ℕ). ltb (length a.buf.now) k) (sym (sum_of a.a.now a.b.now a.c.now)) ∙ sym c.short.ensures ∙ c.if-short.true in
-    (simp asked, simp asked)
-
-pub overflow_add-total-2 : goal.overflow_add-total-2
-overflow_add-total-2 c =
-    let a = c.args in
-    let fits = ltb-false (length a.buf.now) (6 + length a.a.now + length a.b.now + length a.c.now) (sym c.short.ensures ∙ c.if-short.false) in
-    omega arith
-
-pub overflow_add-total-3 : goal.overflow_add-total-3
-overflow_add-total-3 c =
-    let a = c.args in
-    let fits = ltb-false (length a.buf.now) (6 + length a.a.now + length a.b.now + length a.c.now) (sym c.short.ensures ∙ c.if-short.false) in
-    omega arith
-
-pub returns-then-total-gt65535 : goal.returns-then-total-gt65535
-returns-then-total-gt65535 c =
-    let a = c.args in
-    let asked = ap (λ (k : ℕ). ltb (length a.buf.now) k) (sym (sum_of a.a.now a.b.now a.c.now)) ∙ sym c.short.ensures ∙ c.if-short.false in
-    let large = lt-ltb 65535 (6 + length (a.a.now ++ a.b.now ++ a.c.now)) (omega (arith, sum_of a.a.now a.b.now a.c.now)) in
-    (simp (asked, large), simp (asked, large))
 
 pub returns : goal.returns
 returns c =

@@ -1,7 +1,7 @@
 -- `find`: what the loop keeps, and that its contract follows. Assumes nothing.
 use Rattle.std.proofs.Common.{arith, sym, ◌∙◌, rules}
 use Rattle.tunnel_table.specs.Places.{passing}
-use Rattle.tunnel_table.specs.SeekLaws.{seek_turn, seek_hit, seek_end}
+use Rattle.tunnel_table.specs.SeekLaws.{seek_turn, seek_end}
 use Rattle.tunnel_table.proofs.places.find.Goals as goal
 
 pub loop-i-preserved : goal.loop-i-preserved
@@ -14,7 +14,3 @@ returns-then-i-eq8 c =
     let o = c.loop-i in
     sym (o.invariant.2 ∙ seek_end (passing c.args.id) _ o.i (omega arith))
 
-pub returns-then-passes : goal.returns-then-passes
-returns-then-passes c =
-    let o = c.loop-i in
-    sym (o.invariant.2 ∙ seek_hit (passing c.args.id) _ _ o.i (omega arith) (sym c.passes.ensures ∙ c.if-passes.true))

@@ -13,15 +13,6 @@ short a b c buf h =
     let asked = lt-ltb (length buf) (length (a ++ b ++ c)) (omega (arith, length_three a b c)) in
     (simp asked, simp asked)
 
-pub returns-then-buf-a : goal.returns-then-buf-a
-returns-then-buf-a c = short c.args.a.now c.args.b.now c.args.c.now c.args.buf.now (omega arith)
-
-pub returns-then-buf-a-2 : goal.returns-then-buf-a-2
-returns-then-buf-a-2 c = short c.args.a.now c.args.b.now c.args.c.now c.args.buf.now (omega arith)
-
-pub returns-then-buf-a-3 : goal.returns-then-buf-a-3
-returns-then-buf-a-3 c = short c.args.a.now c.args.b.now c.args.c.now c.args.buf.now (omega arith)
-
 pub returns : goal.returns
 returns c =
     let a = c.args in
