@@ -121,6 +121,7 @@ fn taken(area: &[u8]) -> Option<usize>
 }
 
 // The record at a place where one stands.
+// Its callers owe that one stands there; a struct for that would be longer.
 fn record_at(area: &[u8], at: usize) -> AdditionalInfo
     requires { stands (drop at area.now) ≡ true }
     ensures { RecordPromise area.now at result }

@@ -33,6 +33,7 @@ use Rattle.ldata.specs.declared.count.Counting.TheVariants.{Crate}
 use Rattle.ldata.specs.declared.ldata.LDataFields.{LDataFields}
 use Rattle.ldata.specs.declared.builder.LDataBuilder.{LDataBuilder}
 use Rattle.wire.specs.Parts.{shown}
+use Rattle.wire.specs.Parts as Parts
 use Rattle.wire.specs.declared.parts.View.{View}
 use Rattle.pci.specs.Transport.{is_data}
 use Rattle.borrowed.specs.KnxnetIpFrame as KnxnetIpFrame
@@ -355,15 +356,15 @@ pub border_body : (s : List ℕ) (r : KnxFrame) (f : FrameFields) (v : Result Vi
 border_body = KnxReadingLaws.body_as
 
 -- the numbers of `knx_cemi_ldata` are those of the records that `parse`, `as_ldata` and `data` answer
-pub border_ldata : (s : List ℕ) (r : KnxLData) (f : CEMIFrame) (g : LDataFields) (v : View)
-    → CemiLData.CemiLDataPromise s r → Cemi.ParsePromise s (Ok f) → Cemi.AsLDataPromise f s (Ok g) → LData.DataPromise g (Cemi.service_info s) (Ok v)
+pub border_ldata : (s : List ℕ) (r : KnxLData) (f : CEMIFrame) (g : LDataFields) (v : Result View Fault)
+    → CemiLData.CemiLDataPromise s r → Cemi.ParsePromise s (Ok f) → Cemi.AsLDataPromise f s (Ok g) → LData.DataPromise g (Cemi.service_info s) v
     → CemiLData.told r ≡ record {
       number = 0;
       values =
           MessageCodes.code_of f.message_code ∷ take 7 (LData.values g) ++ CemiLData.apci_numbers (is_data g.tpci) g.apci
           ++ CemiLData.six_bit_in (is_data g.tpci) (get_or (Cemi.service_info s) 8 0) ∷ [];
-      start = 2 + Cemi.info_length s + v.start;
-      end = 2 + Cemi.info_length s + v.end;
+      start = 2 + Cemi.info_length s + (Parts.told v).start;
+      end = 2 + Cemi.info_length s + (Parts.told v).end;
       offset = 0;
     }
 border_ldata = CemiLDataLaws.ldata_as Crate

@@ -34,6 +34,7 @@ use Rattle.knx.specs.CemiLDataLaws as CemiLDataLaws
 use Rattle.knx.specs.declared.cemi_ldata.KnxLData.{KnxLData}
 use Rattle.claims.specs.Layouts.{nines}
 use Rattle.wire.specs.declared.refusals.Fault.{Fault}
+use Rattle.wire.specs.Parts as Parts
 
 -- ---- in either count: what is accepted
 
@@ -80,15 +81,15 @@ pub borrowed_data : (c : Counting) (s : List ℕ) (f : LDataFrame) (r : List ℕ
 borrowed_data = LDataFrameLaws.data_in_lem
 
 -- the numbers of `knx_cemi_ldata_standard` are those of the records that `parse`, `as_ldata_in` and `data_in` answer
-pub border : (s : List ℕ) (r : KnxLData) (f : CEMIFrame) (g : LDataFields) (v : View)
-    → CemiLData.CemiLDataStandardPromise s r → Cemi.ParsePromise s (Ok f) → Cemi.AsLDataInPromise Standard f s (Ok g) → LData.DataInPromise Standard g (Cemi.service_info s) (Ok v)
+pub border : (s : List ℕ) (r : KnxLData) (f : CEMIFrame) (g : LDataFields) (v : Result View Fault)
+    → CemiLData.CemiLDataStandardPromise s r → Cemi.ParsePromise s (Ok f) → Cemi.AsLDataInPromise Standard f s (Ok g) → LData.DataInPromise Standard g (Cemi.service_info s) v
     → CemiLData.told r ≡ record {
       number = 0;
       values =
           MessageCodes.code_of f.message_code ∷ take 7 (LData.values g) ++ CemiLData.apci_numbers (is_data g.tpci) g.apci
           ++ CemiLData.six_bit_in (is_data g.tpci) (get_or (Cemi.service_info s) 8 0) ∷ [];
-      start = 2 + Cemi.info_length s + v.start;
-      end = 2 + Cemi.info_length s + v.end;
+      start = 2 + Cemi.info_length s + (Parts.told v).start;
+      end = 2 + Cemi.info_length s + (Parts.told v).end;
       offset = 0;
     }
 border = CemiLDataLaws.ldata_as Standard

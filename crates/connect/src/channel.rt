@@ -38,6 +38,7 @@ pub(crate) struct Status {
 }
 
 impl ConnectionStateRequest {
+    // Alike in four records: NewPromise is of each, and the published crate names it.
     pub fn new(channel_id: u8, control_endpoint: Hpai) -> ConnectionStateRequest
         ensures { StateNewPromise channel_id control_endpoint result }
     {
@@ -75,6 +76,7 @@ impl ConnectionStateResponse {
 }
 
 impl DisconnectRequest {
+    // Alike in four records: NewPromise is of each, and the published crate names it.
     pub fn new(channel_id: u8, control_endpoint: Hpai) -> DisconnectRequest
         ensures { DisconnectNewPromise channel_id control_endpoint result }
     {

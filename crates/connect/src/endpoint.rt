@@ -6,6 +6,7 @@ use hpai::Hpai;
 use wire::Fault;
 
 // A refusal is told where the endpoint stands in the body: a length byte of 7 is refused at 2.
+// Its three callers ask for their lengths first, which differ; no type says all three.
 pub(crate) fn read(body: &[u8]) -> Result<Hpai, Fault>
     requires { 10 ≤ length body.now }
     ensures { ReadPromise body.now result }

@@ -62,6 +62,7 @@ impl Hpai {
         wire::write(&bytes, buf)
     }
 
+    // Not From: ToBytesPromise is of this name, beside that of encode.
     pub fn to_bytes(self) -> [u8; 8]
         ensures { ToBytesPromise self result }
     {

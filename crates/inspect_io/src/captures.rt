@@ -43,6 +43,7 @@ impl<'a, F: Read> Capture<'a, F> {
     }
 
     // The start's line and, where it is one, those of the records.
+    // Its one caller owes the premise; a struct for that would be longer.
     fn inspect(&mut self, rt: &HostRuntime, progress: Progress) -> Result<(), Unwritten>
         requires { StartPromise self.old.input progress }
     {

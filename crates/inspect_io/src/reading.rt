@@ -36,6 +36,7 @@ impl<F: Read> Capture<'_, F> {
     }
 
     // Reads once behind what is there. A read that brings nothing is the capture's end; why one failed is told at once.
+    // Its callers owe that what was read fits; a Progress is handed on without the buffer that it is of.
     pub(crate) fn read_more(
         &mut self,
         rt: &HostRuntime,

@@ -12,6 +12,7 @@ use std::io::Read;
 
 impl<F: Read> Capture<'_, F> {
     // Every turn reads or writes a byte at least, so no capture is long enough to meet this count.
+    // The premise is the loop's invariant, which a struct would say again.
     pub(crate) fn turns(&mut self, rt: &HostRuntime, progress: Progress) -> Stopped
         requires { Reached self.old.input self.old.out progress }
         ensures { TurnPromise self.new.input self.new.out (Err result) }
@@ -30,6 +31,7 @@ impl<F: Read> Capture<'_, F> {
     }
 
     // Scans, and writes what is gathered where a line has no room; else moves what is left to the front and reads on.
+    // Its one caller owes the premise; a struct for that would be longer.
     fn turn(&mut self, rt: &HostRuntime, progress: Progress) -> Result<Progress, Stopped>
         requires { Reached self.old.input self.old.out progress }
         ensures { TurnPromise self.new.input self.new.out result }

@@ -57,6 +57,7 @@ fn cut_line(cut: bool) -> &'static [u8]
 }
 
 // A text, a number and a line feed, from a place on, or none of them.
+// Its two callers have stored at most twenty bytes.
 #[tactic(auto, using(digits::specs::DigitLaws::places_most))]
 fn close(text: &[u8], n: u64, out: &mut [u8], at: usize) -> Result<usize, Refusal>
     requires { at ≤ 20 }

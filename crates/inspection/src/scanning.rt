@@ -5,7 +5,7 @@ use crate::lines;
 use frame::Judged;
 use wire::{Fault, Refusal};
 
-// How far a buffer's records are handed on, how much of the output is used, and how many records there were.
+// How far a buffer's records are handed on, how much of the output is used, since memory is fixed, and how many records there were.
 #[derive(Clone, Copy)]
 pub struct Spot {
     pub at: usize,
@@ -13,7 +13,7 @@ pub struct Spot {
     pub n: u64,
 }
 
-// Why a scan stopped: no whole record is left, a line has no room, or the last record has the largest number.
+// Why a scan stopped: no whole record is left, a line has no room, or the last record has the largest number. No Option: each is a reason, and ScanPromise says of each where the scan stands.
 #[derive(Clone, Copy)]
 pub enum Stop {
     Short,

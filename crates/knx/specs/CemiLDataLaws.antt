@@ -6,6 +6,7 @@ use Rattle.wire.specs.Told.{Told, done, viewed, Check, ◌⇒◌, verdict}
 use Rattle.wire.specs.ToldLaws.{one_to_one, same, never_done, let_pass, let_through, was_accepted}
 use Rattle.wire.specs.PlaceLaws.{located_pass, located_fall, was_fallen}
 use Rattle.wire.specs.Parts.{part_of}
+use Rattle.wire.specs.Parts as Parts
 use Rattle.wire.specs.declared.parts.View.{View}
 use Rattle.wire.specs.declared.refusals.Fault.{Fault}
 use Rattle.constants.specs.MessageCodes.{code_of, message_of}
@@ -145,16 +146,16 @@ view_is c rest f parsed v p = go v p
     go (Err f) p = absurd (never_done f.why (ap (λ (t : Told). t.number) p ∙ ap (λ (t : Told). t.number) e))
 
 -- the numbers that are told are those of the records that `parse`, `as_ldata_in` and `data_in` answer
-pub ldata_as : (c : Counting) (s : List ℕ) (r : KnxLData) (f : CEMIFrame) (g : LDataFields) (v : View)
-    → CemiLDataInPromise c s r → Cemi.ParsePromise s (Ok f) → Cemi.AsLDataInPromise c f s (Ok g) → LData.DataInPromise c g (service_info s) (Ok v)
+pub ldata_as : (c : Counting) (s : List ℕ) (r : KnxLData) (f : CEMIFrame) (g : LDataFields) (v : Result View Fault)
+    → CemiLDataInPromise c s r → Cemi.ParsePromise s (Ok f) → Cemi.AsLDataInPromise c f s (Ok g) → LData.DataInPromise c g (service_info s) v
     → told r ≡ record {
       number = 0;
       values = code_of f.message_code ∷ take 7 (values g) ++ apci_numbers (is_data g.tpci) g.apci ++ six_bit_in (is_data g.tpci) (get_or (service_info s) 8 0) ∷ [];
-      start = 2 + info_length s + v.start;
-      end = 2 + info_length s + v.end;
+      start = 2 + info_length s + (Parts.told v).start;
+      end = 2 + info_length s + (Parts.told v).end;
       offset = 0;
     }
-ldata_as c s r f g v p parsed read view =
+ldata_as c s r f g (Ok v) p parsed read view =
     let C : Count = count_by c in
     let rest : List ℕ = service_info s in
     let answered : AnswerInPromise c s (Ok g) = as_ldata c s f parsed (Ok g) read in
@@ -173,6 +174,9 @@ ldata_as c s r f g v p parsed read view =
     ∙ ap (λ (a : Apci). of (code_in s) (values_in C rest) d a v.start v.end) (LDataLaws.apci_read C rest g on-rest)
     ∙ ap (λ (start : ℕ). of (code_in s) (values_in C rest) d there start v.end) (ap (λ (w : View). w.start) it)
     ∙ ap (of (code_in s) (values_in C rest) d there (start_of d)) (ap (λ (w : View). w.end) it))
+ldata_as c s r f g (Err e) p parsed read view =
+    let at = view_is c (service_info s) g (accepted c s g (as_ldata c s f parsed (Ok g) read)) (Err e) view in
+    never cc
 
 -- ---- no second answer
 

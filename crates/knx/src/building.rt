@@ -11,7 +11,7 @@ use pci::Tpci;
 use tunnelling::{ConnectionHeader, Form, TunnelingAck, TunnelingRequest};
 use wire::Refusal;
 
-// How many bytes were written, and a number of 01. The offset is 0: a builder reads no datagram.
+// C has no Result. How many bytes were written, and a number of 01. The offset is 0: a builder reads no datagram.
 #[repr(C)]
 #[derive(Clone, Copy)]
 pub struct KnxWritten {

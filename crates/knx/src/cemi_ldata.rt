@@ -62,6 +62,7 @@ fn answer_in(counting: Counting, data: &[u8]) -> Result<LDataFields, Fault>
 }
 
 // TPCI and APCI are read off their bytes, which costs less than by way of their names.
+// Its one caller owes the premise; a struct for that would be longer.
 fn read(counting: Counting, data: &[u8], fields: LDataFields) -> KnxLData
     requires { Accepted counting «data».now fields }
     ensures { ReadPromise counting «data».now result }

@@ -20,7 +20,7 @@ pub struct KnxPart {
     pub number: u8,
 }
 
-// A number of 01 and, beside 0 and where one was found, a record: where its data stands, its type, its timestamp; else the offset of the field that decided.
+// C has no Result. A number of 01 and, beside 0 and where one was found, a record: where its data stands, its type, its timestamp; else the offset of the field that decided.
 #[repr(C)]
 #[derive(Clone, Copy)]
 pub struct KnxAdditionalInfo {

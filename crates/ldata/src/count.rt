@@ -52,6 +52,7 @@ impl Counting {
     }
 
     // L of a data packet that is built with n bytes of data.
+    // Its one caller owes the premise; a struct for that would be longer.
     pub(crate) fn npdu_length(self, n: u8) -> u8
         requires { n ≤ 253 }
         ensures { result ≡ (count_by self).length_of n }

@@ -58,6 +58,7 @@ pub fn located(t: Told, refusal: Option<Fault>) -> Told
     told
 }
 
+// Not usize::from at each place: FlagPromise is of this name, and the comparison plants faults in it.
 pub fn flag(b: bool) -> usize
     ensures { FlagPromise b result }
 {

@@ -32,6 +32,7 @@ fn only(value: u8) -> Told {
     replay::few(1, [usize::from(value), 0, 0, 0])
 }
 
+// Alike in two types: each call of the comparison has its function, and a trait would be longer.
 fn message_code_from(args: &[u8]) -> Told {
     match CEMIMessageCode::from_u8(wire::byte_at(args, 0)) {
         Ok(m) => replay::few(2, [variants::message_code(m), usize::from(m.to_u8()), 0, 0]),

@@ -34,6 +34,7 @@ pub(crate) fn cri_encode(args: &[u8], buf: &mut [u8]) -> Told {
     replay::written(cri_at(args, 0).encode(buf))
 }
 
+// Alike in two types: each call of the comparison has its function, and a trait would be longer.
 pub(crate) fn cri_decode(args: &[u8]) -> Told {
     match ConnectionRequestInfo::decode(args) {
         Ok(c) => cri(c),

@@ -47,6 +47,7 @@ pub(crate) fn new(args: &[u8]) -> Told {
     told(Hpai::new(address_at(args, 0), wire::word_at(args, 4)))
 }
 
+// Alike in two types: each call of the comparison has its function, and a trait would be longer.
 pub(crate) fn parse(args: &[u8]) -> Told {
     match Hpai::parse(args) {
         Ok(h) => told(h),

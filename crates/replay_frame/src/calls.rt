@@ -25,6 +25,7 @@ impl Calls for FrameCalls {
     }
 }
 
+// Alike in two types: each call of the comparison has its function, and a trait would be longer.
 fn service_from(args: &[u8]) -> Told {
     match ServiceType::from_u16(wire::word_at(args, 0)) {
         Ok(s) => replay::few(2, [variants::service(s), usize::from(s.to_u16()), 0, 0]),

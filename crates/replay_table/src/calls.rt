@@ -1,6 +1,6 @@
 // The calls on a table of tunnels, 46 to 51, and 76, a datagram in KNX's own form: the table is carried from record to record.
 use replay::{Calls, Told};
-use tunnel::{Tunnel, Wait};
+use tunnel::{Said, Tunnel, Wait};
 use tunnel_table::{Called, Held, Table};
 use tunnelling::Form;
 use wire::Fault;
@@ -25,12 +25,7 @@ impl TableCalls {
                 self.table = c.table;
                 self.with_places(replay::few(
                     12,
-                    [
-                        usize::from(c.said.number()),
-                        c.view.start,
-                        c.view.end,
-                        c.written,
-                    ],
+                    [said_number(c.said), c.view.start, c.view.end, c.written],
                 ))
             }
             Err(fault) => self.with_places(replay::refused(fault, 12)),
@@ -79,10 +74,10 @@ fn datagram(table: Table, args: &[u8], buf: &mut [u8]) -> Result<Called, Fault> 
     table.heard(tunnel_datagram::hear(args), buf)
 }
 
-// Five bytes a place: open, id, r, s, wait.
+// Five bytes a place: open, id, r, s, wait; a place whose bytes are cut short is free. No From: the layout is this program's record, not the table's.
 fn table_of(args: &[u8]) -> Table {
     let mut table = Table::empty();
-    for (place, five) in table.places.iter_mut().zip(args.chunks(5)) {
+    for (place, five) in table.places.iter_mut().zip(args.chunks_exact(5)) {
         *place = place_of(five);
     }
     table
@@ -97,9 +92,39 @@ fn place_of(five: &[u8]) -> Option<Held> {
         tunnel: Tunnel {
             r: wire::byte_at(five, 2),
             s: wire::byte_at(five, 3),
-            w: Wait::from_u8(wire::byte_at(five, 4)),
+            w: wait_of(wire::byte_at(five, 4)),
         },
     })
+}
+
+// A match of its own, as the two below, and not the port's number: two variants exchanged in both would cancel out.
+fn wait_of(n: u8) -> Wait {
+    match n {
+        0 => Wait::Idle,
+        1 => Wait::First,
+        _ => Wait::Second,
+    }
+}
+
+fn wait_number(w: Wait) -> u8 {
+    match w {
+        Wait::Idle => 0,
+        Wait::First => 1,
+        Wait::Second => 2,
+    }
+}
+
+fn said_number(said: Said) -> usize {
+    match said {
+        Said::Nothing => 0,
+        Said::Repeat => 1,
+        Said::GiveUp => 2,
+        Said::Deliver => 3,
+        Said::Duplicate => 4,
+        Said::OutOfOrder => 5,
+        Said::Sent => 6,
+        Said::Ignored => 7,
+    }
 }
 
 // One number for all that a place holds; 0 for a free one.
@@ -107,7 +132,7 @@ fn place_number(place: Option<Held>) -> usize {
     match place {
         Some(held) => {
             let tunnel = held.tunnel;
-            let s = usize::from(tunnel.s) + 256 * usize::from(tunnel.w.number());
+            let s = usize::from(tunnel.s) + 256 * usize::from(wait_number(tunnel.w));
             1 + usize::from(held.id) + 256 * (usize::from(tunnel.r) + 256 * s)
         }
         None => 0,

@@ -83,6 +83,7 @@ fn in_ack(form: Form, body: &[u8]) -> Result<Heard, Fault>
 }
 
 // A refusal of the body, as the datagram's: the body stands behind the header.
+// Its two callers owe the premise; a struct for that would be longer.
 fn in_body(fault: Fault) -> Fault
     requires { header_size + fault.at < 18446744073709551616 }
     ensures { result ≡ later_fault header_size fault }

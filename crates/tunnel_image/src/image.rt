@@ -30,6 +30,7 @@ pub fn pack(places: [Option<Held>; 8], image: &mut [u8]) -> Result<usize, Refusa
     Ok(SIZE)
 }
 
+// Its one caller owes the premise; a struct for that would be longer.
 fn place_at(image: &[u8], at: usize) -> Option<Held>
     requires { at ≤ 35 }
     ensures { result ≡ place_at image.now at }

@@ -5,12 +5,6 @@ use Rattle.knx.specs.CemiLData.{ServiceInPromise}
 use Rattle.knx.specs.CemiLDataLaws.{reads, rest_is, start_most}
 use Rattle.knx.proofs.cemi_ldata.read.Goals as goal
 
-pub overflow_add-result : goal.overflow_add-result
-overflow_add-result c = omega (arith, c.data_start.ensures, start_most (ltb c.kind_in-kind.result 2))
-
-pub overflow_add-result-2 : goal.overflow_add-result-2
-overflow_add-result-2 c = omega (arith, c.data_end.ensures, end_most c.args.counting c.args.fields.npdu_length)
-
 pub returns : goal.returns
 returns c =
     let a = c.args in
