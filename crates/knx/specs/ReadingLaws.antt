@@ -1,10 +1,10 @@
 -- The border's readers: how their numbers follow from the answers below, and no second answer. Assumes nothing.
-use Rattle.std.specs.Prelude.{ℕ, ◌≡◌, refl, List, [], ◌∷◌, length, get_or, Ok, Err, Result}
+use Rattle.std.specs.Prelude.{ℕ, ◌≡◌, refl, List, [], ◌∷◌, length, get_or, Ok, Result}
 use Rattle.std.proofs.Common.{sym, ap, ◌∙◌}
-use Rattle.wire.specs.Told.{Told, done, refused, Check, verdict, judged, viewed}
+use Rattle.wire.specs.Told.{Told, done, Check, verdict, judged, viewed}
 use Rattle.wire.specs.ToldLaws.{one_to_one, same, was_accepted, let_through}
 use Rattle.wire.specs.Places.{located}
-use Rattle.wire.specs.PlaceLaws.{located_pass, located_fall, was_fallen}
+use Rattle.wire.specs.PlaceLaws.{located_pass}
 use Rattle.wire.specs.Layout.{get}
 use Rattle.wire.specs.Parts as Parts
 use Rattle.wire.specs.PartLaws as PartLaws

@@ -57,8 +57,3 @@ lawful Standard = record {
   fits = λ n most. simp (le-ltb (n + 1) 1 (omega arith), le-leb (n + 1) 254 (omega arith));
   controls = λ q. record { enough = omega arith; ends = refl; fits = refl; code = λ first. refl };
 }
-
--- neither count ends past 8 + L
-pub end_most : (c : Counting) (l : ℕ) → (count_by c).end_of l ≤ 8 + l
-end_most Crate l = omega arith
-end_most Standard l = omega arith

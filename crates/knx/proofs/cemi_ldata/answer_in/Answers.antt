@@ -1,5 +1,5 @@
 -- One law of `CemiLDataLaws` for each way out. Assumes nothing.
-use Rattle.knx.specs.CemiLDataLaws.{as_ldata, no_cemi}
+use Rattle.knx.specs.CemiLDataLaws.{as_ldata}
 use Rattle.knx.proofs.cemi_ldata.answer_in.Goals as goal
 
 pub returns-in-Ok : goal.returns-in-Ok

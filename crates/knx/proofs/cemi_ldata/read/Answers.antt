@@ -1,8 +1,7 @@
 -- Where the rest starts, then every number as it was read. Assumes nothing.
-use Rattle.std.proofs.Common.{ℕ, arith, subst, ap, Bool, ltb}
-use Rattle.ldata.specs.CountLaws.{end_most}
+use Rattle.std.proofs.Common.{ℕ, subst, ap, Bool, ltb}
 use Rattle.knx.specs.CemiLData.{ServiceInPromise}
-use Rattle.knx.specs.CemiLDataLaws.{reads, rest_is, start_most}
+use Rattle.knx.specs.CemiLDataLaws.{reads, rest_is}
 use Rattle.knx.proofs.cemi_ldata.read.Goals as goal
 
 pub returns : goal.returns
