@@ -13,4 +13,3 @@ pub returns-then-i-eq8 : goal.returns-then-i-eq8
 returns-then-i-eq8 c =
     let o = c.loop-i in
     sym (o.invariant.2 ∙ seek_end (passing c.args.id) _ o.i (omega arith))
-
