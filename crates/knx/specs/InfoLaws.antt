@@ -1,17 +1,15 @@
 -- The border's additional information: how its numbers follow from the answers below, and no second answer. Assumes nothing.
-use Rattle.std.specs.Prelude.{ℕ, ◌+◌, ◌≡◌, refl, List, [], ◌∷◌, ◌++◌, length, get_or, Result, Ok, Err}
-use Rattle.std.proofs.Common.{sym, subst, ◌∙◌}
+use Rattle.std.specs.Prelude.{ℕ, ◌+◌, ◌≡◌, refl, List, [], ◌∷◌, ◌++◌, length, get_or, Err}
+use Rattle.std.proofs.Common.{sym, ◌∙◌}
 use Rattle.wire.specs.Told.{Told, done, viewed, refused, Check}
-use Rattle.wire.specs.ToldLaws.{was_accepted, was_refused, same, one_to_one}
+use Rattle.wire.specs.ToldLaws.{was_refused, same, one_to_one}
 use Rattle.wire.specs.PlaceLaws.{falls_still, located_fall}
 use Rattle.wire.specs.Coding.{check}
-use Rattle.wire.specs.Coding as Coding
 use Rattle.wire.specs.Writing.{Writes}
 use Rattle.wire.specs.WritingLaws as WritingLaws
 use Rattle.wire.specs.declared.refusals.Fault.{Fault}
 use Rattle.constants.specs.MessageCodes.{message_codes, code_of}
 use Rattle.constants.specs.MessageCodes as MessageCodes
-use Rattle.constants.specs.declared.message_codes.CEMIMessageCode.{CEMIMessageCode}
 use Rattle.additional_info.specs.InfoType.{type_of}
 use Rattle.additional_info.specs.AppendingLaws as AppendingLaws
 use Rattle.additional_info.specs.Appending as Appending
@@ -23,7 +21,6 @@ use Rattle.knx.specs.declared.building.KnxWritten.{KnxWritten}
 use Rattle.knx.specs.declared.info.KnxPart.{KnxPart}
 use Rattle.knx.specs.declared.info.KnxAdditionalInfo.{KnxAdditionalInfo}
 use Rattle.knx.specs.declared.info.KnxCount.{KnxCount}
-use Rattle.wire.specs.declared.refusals.Refusal.{Refusal}
 
 -- a frame that does not parse has no area
 pub no_area : (s : List ℕ) (e : Fault) (t : Told) → Cemi.ParsePromise s (Err e) → t ≡ refused 0 e → t ≡ Cemi.info_where s
@@ -34,14 +31,6 @@ no_area s e t p q =
 
 -- a message code of a number: the frame is built, or refused before it is looked at
 module _ (code : ℕ) (area rest b : List ℕ) where
-  pub code_known : (m : CEMIMessageCode) (w : Result ℕ Refusal) (after : List ℕ) → MessageCodes.FromPromise code (Ok m)
-      → Cemi.BuildPromise (record { message_code = m }) area rest b w after → Writes (build_checks code area (length rest) (length b)) (Cemi.layout code area rest) b w after
-  code_known m w after p built =
-      let known = was_accepted (check message_codes code ∷ []) (done (code ∷ [])) (done (code_of m ∷ [])) refl p in
-      let same_code : code ≡ code_of m = Coding.to_from message_codes code m p in
-      WritingLaws.writes_behind (check message_codes code ∷ []) (Cemi.build_checks area (length rest) (length b)) (Cemi.layout code area rest) b w after known
-      (subst (λ (c : ℕ). Writes (Cemi.build_checks area (length rest) (length b)) (Cemi.layout c area rest) b w after) (sym same_code) built)
-
   pub code_unknown : (e : Fault) → MessageCodes.FromPromise code (Err e) → Writes (build_checks code area (length rest) (length b)) (Cemi.layout code area rest) b (Err e.why) b
   code_unknown e p =
       WritingLaws.refuses-before (check message_codes code ∷ []) (Cemi.build_checks area (length rest) (length b)) (Cemi.layout code area rest) b e.why

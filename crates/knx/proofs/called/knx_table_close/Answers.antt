@@ -1,15 +1,8 @@
 -- `knx_table_close` keeps its contract. Assumes nothing.
-use Rattle.std.proofs.Common.{ap, ◌∙◌, []}
-use Rattle.wire.specs.Told.{refused}
+use Rattle.std.proofs.Common.{[]}
 use Rattle.tunnel_model.specs.Calls.{Close}
-use Rattle.wire.specs.declared.refusals.Fault.{Fault}
-use Rattle.knx.specs.CalledLaws.{small_call, packed_call}
+use Rattle.knx.specs.CalledLaws.{packed_call}
 use Rattle.knx.proofs.called.knx_table_close.Goals as goal
-
-pub returns-then-image-lt-SIZE : goal.returns-then-image-lt-SIZE
-returns-then-image-lt-SIZE c =
-    let a = c.args in
-    small_call a.image.now (Close a.id) _ c.if-image-lt-SIZE.true (c.refused.ensures ∙ ap (λ (e : Fault). refused 2 e) c.from.ensures)
 
 pub returns : goal.returns
 returns c =

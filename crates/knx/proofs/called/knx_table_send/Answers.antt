@@ -1,15 +1,7 @@
 -- `knx_table_send` keeps its contract. Assumes nothing.
-use Rattle.std.proofs.Common.{ap, ◌∙◌}
-use Rattle.wire.specs.Told.{refused}
 use Rattle.tunnel_model.specs.Calls.{Send}
-use Rattle.wire.specs.declared.refusals.Fault.{Fault}
-use Rattle.knx.specs.CalledLaws.{small_call, packed_call}
+use Rattle.knx.specs.CalledLaws.{packed_call}
 use Rattle.knx.proofs.called.knx_table_send.Goals as goal
-
-pub returns-then-image-lt-SIZE : goal.returns-then-image-lt-SIZE
-returns-then-image-lt-SIZE c =
-    let a = c.args in
-    small_call a.image.now (Send a.id a.cemi.now a.out.now) _ c.if-image-lt-SIZE.true (c.refused.ensures ∙ ap (λ (e : Fault). refused 2 e) c.from.ensures)
 
 pub returns : goal.returns
 returns c =

@@ -1,17 +1,10 @@
 -- `table_datagram_in` keeps its contract. Assumes nothing.
-use Rattle.std.proofs.Common.{ap, sym, ◌∙◌}
-use Rattle.wire.specs.Told.{refused}
-use Rattle.wire.specs.declared.refusals.Fault.{Fault}
+use Rattle.std.proofs.Common.{sym, ◌∙◌}
 use Rattle.tunnel_datagram.specs.HearingLaws.{heard_in_is}
 use Rattle.tunnel_model.specs.Calls.{DatagramIn}
 use Rattle.tunnel_table.specs.TableLaws.{step-heard}
-use Rattle.knx.specs.CalledLaws.{small_call, unheard_call, packed_call}
+use Rattle.knx.specs.CalledLaws.{unheard_call, packed_call}
 use Rattle.knx.proofs.called.table_datagram_in.Goals as goal
-
-pub returns-then-image-lt-SIZE : goal.returns-then-image-lt-SIZE
-returns-then-image-lt-SIZE c =
-    let a = c.args in
-    small_call a.image.now (DatagramIn a.form a.bytes.now a.out.now) _ c.if-image-lt-SIZE.true (c.refused.ensures ∙ ap (λ (e : Fault). refused 2 e) c.from.ensures)
 
 pub returns-in-Err : goal.returns-in-Err
 returns-in-Err c =

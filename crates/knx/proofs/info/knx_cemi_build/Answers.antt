@@ -1,17 +1,7 @@
 -- The number is asked first. Assumes nothing.
 use Rattle.std.specs.Prelude.{Err}
-use Rattle.knx.specs.InfoLaws.{code_known, code_unknown}
+use Rattle.knx.specs.InfoLaws.{code_unknown}
 use Rattle.knx.proofs.info.knx_cemi_build.Goals as goal
-
-pub returns-in-Ok : goal.returns-in-Ok
-returns-in-Ok c =
-    let a = c.args in
-    let w = c.build in
-    record {
-      answer = w.result;
-      keeps = code_known a.message_code a.additional_info.now a.service_info.now a.out.now c.in-Ok.message_code w.result _ c.in-Ok.ensures w.ensures;
-      tells = c.written.ensures;
-    }
 
 pub returns-in-Err : goal.returns-in-Err
 returns-in-Err c =
