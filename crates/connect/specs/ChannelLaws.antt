@@ -15,7 +15,7 @@ use Rattle.frame.specs.RoundTrip.{Carries, carries}
 use Rattle.hpai.specs.Hpai as Hpai
 use Rattle.hpai.specs.HpaiLaws as HpaiLaws
 use Rattle.hpai.specs.declared.Hpai.{Hpai}
-use Rattle.connect.specs.Endpoint.{ReadPromise}
+use Rattle.connect.specs.Endpoint.{StandsPromise, ReadPromise}
 use Rattle.connect.specs.EndpointLaws as EndpointLaws
 use Rattle.connect.specs.Channel.{request_layout, request_checks, RequestPromise, DisconnectBuildPromise, status_fields, status_format, status_where, status, told_state, StateParsePromise, told_disconnect, DisconnectParsePromise, request_fields, request_format, told_request, DisconnectRequestParsePromise, status_layout, response_checks, DisconnectResponseBuildPromise}
 use Rattle.connect.specs.declared.channel.DisconnectRequest.{DisconnectRequest}
@@ -84,13 +84,13 @@ has_layout s channel code b q =
 
 -- on from its endpoint, whose refusal is the request's
 module _ (s : List ℕ) (enough : 10 ≤ length s) where
-  pub fell : (e : Fault) → ReadPromise s (Err e) → refused 8 e ≡ read_where request_format s
+  pub fell : (e : Fault) → StandsPromise s (Err e) → refused 8 e ≡ read_where request_format s
   fell e q = simp (le-ltb (length s) 10 enough) (EndpointLaws.fell s (done (get_or s 0 0 ∷ get Hpai.fields 2 s)) e q)
 
-  pub stood : (c : Hpai) → ReadPromise s (Ok c) → done (get_or s 0 0 ∷ Hpai.values c) ≡ read_where request_format s
-  stood c q =
-      ap (λ (us : List ℕ). done (get_or s 0 0 ∷ us)) (EndpointLaws.held s c q)
-      ∙ simp (le-ltb (length s) 10 enough) (EndpointLaws.stood s (done (get_or s 0 0 ∷ get Hpai.fields 2 s)) c refl q)
+  pub stood : (c : Hpai) → StandsPromise s (Ok tt) → ReadPromise s c → done (get_or s 0 0 ∷ Hpai.values c) ≡ read_where request_format s
+  stood c q p =
+      ap (λ (us : List ℕ). done (get_or s 0 0 ∷ us)) (EndpointLaws.held s c p)
+      ∙ simp (le-ltb (length s) 10 enough) (EndpointLaws.stood s (done (get_or s 0 0 ∷ get Hpai.fields 2 s)) refl q)
 
 request_of : List ℕ → Result DisconnectRequest Fault
 request_of vs = Ok (record { channel_id = get_or vs 0 0; control_endpoint = HpaiLaws.hpai_of (drop 1 vs) })

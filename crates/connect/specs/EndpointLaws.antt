@@ -3,13 +3,13 @@ use Rattle.std.specs.Prelude.{ℕ, ◌≤◌, ◌≡◌, refl, List, length, tak
 use Rattle.std.proofs.Common.{arith, sym, ap, ◌∙◌, length-drop, length-take-le}
 use Rattle.wire.specs.Told.{Told, done, refused, judged}
 use Rattle.wire.specs.ToldLaws.{was_accepted, let_through, never_done}
-use Rattle.wire.specs.Places.{located, moved, later_fault}
-use Rattle.wire.specs.PlaceLaws.{located_pass, located_fall, was_fallen, offset_within, refuses-later}
+use Rattle.wire.specs.Places.{located, standing, moved, later, later_fault}
+use Rattle.wire.specs.PlaceLaws.{located_pass, located_fall, was_fallen, offset_within, refuses-later, stands-later, accepted-stands, stands-accepted}
 use Rattle.wire.specs.Layout.{get}
 use Rattle.wire.specs.LayoutLaws.{get_part}
 use Rattle.hpai.specs.Hpai as Hpai
 use Rattle.hpai.specs.declared.Hpai.{Hpai}
-use Rattle.connect.specs.Endpoint.{endpoint_in, whole, ReadPromise}
+use Rattle.connect.specs.Endpoint.{endpoint_in, whole, StandsPromise, ReadPromise}
 use Rattle.wire.specs.declared.refusals.Fault.{Fault}
 
 module _ (s : List ℕ) (enough : 10 ≤ length s) (h : Result Hpai Fault) (parsed : Hpai.ParsePromise (take 8 (drop 2 s)) h) where
@@ -43,18 +43,28 @@ module _ (s : List ℕ) (enough : 10 ≤ length s) (h : Result Hpai Fault) (pars
   read c q =
       ap (λ (t : Told). t.values) (let_through (Hpai.checks 8 (endpoint_in s)) (done (endpoint_in s)) (Hpai.told (Ok c)) refl (ap Hpai.told (sym q) ∙ heard))
 
--- ---- what was read at 2 decides for any answer of the body
+  -- so do its checks
+  pub falls : (e : Fault) → h ≡ Err e → Err (later_fault 2 e) ≡ standing (Hpai.checks 8 (endpoint_in s)) (moved 2 (Hpai.offsets 8))
+  falls e q =
+      let cs = Hpai.checks 8 (endpoint_in s) in
+      let os = Hpai.offsets 8 in
+      sym (stands-later 2 cs os refl ∙ ap (later 2) (was_fallen cs os (done (endpoint_in s)) 7 e refl (ap Hpai.told (sym q) ∙ heard)))
 
-pub fell : (s : List ℕ) (t : Told) (e : Fault) → ReadPromise s (Err e) → refused (length t.values) e ≡ whole s t
-fell s t e q =
+  pub passes : (c : Hpai) → h ≡ Ok c → Ok tt ≡ standing (Hpai.checks 8 (endpoint_in s)) (moved 2 (Hpai.offsets 8))
+  passes c q =
+      let cs = Hpai.checks 8 (endpoint_in s) in
+      sym (accepted-stands cs (moved 2 (Hpai.offsets 8)) (was_accepted cs (done (endpoint_in s)) (Hpai.told (Ok c)) refl (ap Hpai.told (sym q) ∙ heard)))
+
+-- ---- what the checks at 2 say decides for any answer of the body
+
+pub fell : (s : List ℕ) (t : Told) (e : Fault) → StandsPromise s (Err e) → refused (length t.values) e ≡ whole s t
+fell s t e q = sym (located_fall (Hpai.checks 8 (endpoint_in s)) (moved 2 (Hpai.offsets 8)) t e (sym q))
+
+pub stood : (s : List ℕ) (t : Told) → t.offset ≡ 0 → StandsPromise s (Ok tt) → t ≡ whole s t
+stood s t z q =
     let cs = Hpai.checks 8 (endpoint_in s) in
     let os = moved 2 (Hpai.offsets 8) in
-    sym (located_fall cs os t e (was_fallen cs os (done (endpoint_in s)) 7 e refl q))
+    sym (located_pass cs os t refl z (stands-accepted cs os (sym q)))
 
-pub stood : (s : List ℕ) (t : Told) (c : Hpai) → t.offset ≡ 0 → ReadPromise s (Ok c) → t ≡ whole s t
-stood s t c z q =
-    let cs = Hpai.checks 8 (endpoint_in s) in
-    sym (located_pass cs (moved 2 (Hpai.offsets 8)) t refl z (was_accepted cs (done (endpoint_in s)) (Hpai.told (Ok c)) refl q))
-
-pub held : (s : List ℕ) (c : Hpai) → ReadPromise s (Ok c) → Hpai.values c ≡ endpoint_in s
-held s c q = ap (λ (t : Told). t.values) (let_through (Hpai.checks 8 (endpoint_in s)) (done (endpoint_in s)) (Hpai.told (Ok c)) refl q)
+pub held : (s : List ℕ) (c : Hpai) → ReadPromise s c → Hpai.values c ≡ endpoint_in s
+held s c q = q.0

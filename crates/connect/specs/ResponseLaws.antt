@@ -13,7 +13,7 @@ use Rattle.wire.specs.declared.refusals.Refusal.TheVariants.{BufferTooSmall}
 use Rattle.wire.specs.Told.{Verdict}
 use Rattle.hpai.specs.Hpai as Hpai
 use Rattle.hpai.specs.declared.Hpai.{Hpai}
-use Rattle.connect.specs.Endpoint.{ReadPromise}
+use Rattle.connect.specs.Endpoint.{StandsPromise, ReadPromise}
 use Rattle.connect.specs.EndpointLaws as EndpointLaws
 use Rattle.connect.specs.Response.{fields, format, values, layout, checks, told, parse_where, Arrays, ParsePromise, bare, parse_standard_where, ParseStandardPromise}
 use Rattle.connect.specs.declared.response.ConnectResponse.{ConnectResponse}
@@ -22,14 +22,14 @@ use Rattle.connect.specs.declared.response.ConnectResponse.{ConnectResponse}
 
 module _ (s : List ℕ) (enough : 14 ≤ length s) where
   -- the endpoint's refusal is the response's
-  pub fell : (e : Fault) → ReadPromise s (Err e) → refused 13 e ≡ parse_where s
+  pub fell : (e : Fault) → StandsPromise s (Err e) → refused 13 e ≡ parse_where s
   fell e q = simp (le-ltb (length s) 14 enough) (EndpointLaws.fell s (done (get fields 0 s)) e q)
 
   -- and where it is accepted, the response is
-  pub stood : (c : Hpai) → ReadPromise s (Ok c) → done (get_or s 0 0 ∷ get_or s 1 0 ∷ (Hpai.values c ++ run_at 4 s 10)) ≡ parse_where s
-  stood c q =
-      ap (λ (us : List ℕ). done (get_or s 0 0 ∷ get_or s 1 0 ∷ (us ++ run_at 4 s 10))) (EndpointLaws.held s c q)
-      ∙ simp (le-ltb (length s) 14 enough) (EndpointLaws.stood s (done (get fields 0 s)) c refl q)
+  pub stood : (c : Hpai) → StandsPromise s (Ok tt) → ReadPromise s c → done (get_or s 0 0 ∷ get_or s 1 0 ∷ (Hpai.values c ++ run_at 4 s 10)) ≡ parse_where s
+  stood c q p =
+      ap (λ (us : List ℕ). done (get_or s 0 0 ∷ get_or s 1 0 ∷ (us ++ run_at 4 s 10))) (EndpointLaws.held s c p)
+      ∙ simp (le-ltb (length s) 14 enough) (EndpointLaws.stood s (done (get fields 0 s)) refl q)
 
 -- ---- no second answer
 

@@ -107,7 +107,8 @@ impl DisconnectRequest {
                 at: data.len(),
             });
         }
-        let control_endpoint = endpoint::read(data)?;
+        endpoint::stands(data)?;
+        let control_endpoint = endpoint::read(data);
         Ok(DisconnectRequest {
             channel_id: data[0],
             control_endpoint,

@@ -10,8 +10,8 @@ use wire::{Fault, Refusal};
 pub struct ConnectResponse {
     pub channel_id: u8,
     pub status: u8,
-    pub data_endpoint: Hpai,
     pub crd: [u8; 4],
+    pub data_endpoint: Hpai,
 }
 
 impl ConnectResponse {
@@ -25,7 +25,8 @@ impl ConnectResponse {
                 at: data.len(),
             });
         }
-        let data_endpoint = endpoint::read(data)?;
+        endpoint::stands(data)?;
+        let data_endpoint = endpoint::read(data);
         let crd = [data[10], data[11], data[12], data[13]];
         Ok(ConnectResponse {
             channel_id: data[0],
