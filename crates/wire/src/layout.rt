@@ -1,6 +1,8 @@
 // Bytes and big-endian numbers of a slice, and copying into a lent one: total, so that a caller asks no index.
 ghost use Rattle.wire.specs.Layout.{WordPromise, HighPromise, LowPromise, ByteAtPromise, WordAtPromise, CopyPromise};
 
+use crate::copying::copy_all;
+
 // The number of two bytes, the high one first.
 pub fn word(first: u8, second: u8) -> u16
     ensures { WordPromise first second result }
@@ -38,7 +40,7 @@ pub fn word_at(s: &[u8], at: usize) -> u16
     }
 }
 
-// Copies all of src into dst from a place on; writes nothing where it does not fit: `copy_from_slice` alone would ask that of its caller.
+// Copies all of src into dst from a place on; writes nothing where it does not fit.
 pub fn copy_at(src: &[u8], dst: &mut [u8], at: usize)
     ensures { CopyPromise src.now dst.old at dst.new }
 {
@@ -48,5 +50,5 @@ pub fn copy_at(src: &[u8], dst: &mut [u8], at: usize)
     if dst.len() - at < src.len() {
         return;
     }
-    dst[at..at + src.len()].copy_from_slice(src);
+    copy_all(src, dst, at);
 }

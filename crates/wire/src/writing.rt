@@ -1,6 +1,7 @@
 // What records are written by: one piece, or three one behind another.
 ghost use Rattle.wire.specs.Writing.{WritePromise, Write3Promise};
 
+use crate::copying::copy_all;
 use crate::layout::copy_at;
 use crate::refusals::Refusal;
 
@@ -11,7 +12,7 @@ pub fn write(bytes: &[u8], buf: &mut [u8]) -> Result<usize, Refusal>
     if buf.len() < bytes.len() {
         return Err(Refusal::BufferTooSmall);
     }
-    buf[..bytes.len()].copy_from_slice(bytes);
+    copy_all(bytes, buf, 0);
     Ok(bytes.len())
 }
 
