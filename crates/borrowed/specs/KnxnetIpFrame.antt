@@ -1,25 +1,25 @@
--- `KnxnetIpFrame`: the datagram's bytes beside its fields, over the definitions that the field record's functions promise. Assumes nothing.
-use Rattle.std.specs.Prelude.{ℕ, ◌≡◌, List, [], length, Result, Ok, Err}
-use Rattle.wire.specs.Told.{Told, refused, viewed, judged}
+-- `KnxnetIpFrame`: the datagram's bytes beside what parsing it answered, over the definitions that the field record's functions promise. Assumes nothing.
+use Rattle.std.specs.Prelude.{ℕ, ◌≡◌, List, length, Result, Ok, Err}
+use Rattle.wire.specs.Told.{Told, refused, viewed, verdict, judged}
 use Rattle.wire.specs.Layout.{get}
 use Rattle.wire.specs.Parts.{shown}
 use Rattle.wire.specs.Parts as Parts
 use Rattle.wire.specs.declared.parts.View.{View}
 use Rattle.header.specs.Header.{fields, total_in}
 use Rattle.frame.specs.Frame as Frame
+use Rattle.borrowed.specs.Borrowed.{borrowed_by}
 use Rattle.borrowed.specs.declared.knxnet_ip_frame.KnxnetIpFrame.{KnxnetIpFrame}
 use Rattle.wire.specs.declared.refusals.Fault.{Fault}
 use Rattle.frame.specs.declared.frame.FrameFields.{FrameFields}
 
--- the fields that stand there, and all the bytes; of a refused datagram the refusal, and no byte
-abbrev pub ParsePromise : List ℕ → Result KnxnetIpFrame Fault → Type 0
-ParsePromise s (Ok r) = (r.«data».now ≡ s) × Frame.ParsePromise s (Ok r.fields)
-ParsePromise s (Err e) = Frame.ParsePromise s (Err e)
+abbrev pub borrowed_in : List ℕ → List ℕ
+borrowed_in s = borrowed_by (verdict (Frame.checks (length s) (get fields 0 s))) s
 
--- what an answer borrows: the bytes of its record, none where it refuses
-abbrev pub borrowed_of : Result KnxnetIpFrame Fault → List ℕ
-borrowed_of (Ok r) = r.«data».now
-borrowed_of (Err e) = []
+abbrev pub BorrowedPromise : List ℕ → List ℕ → Type 0
+BorrowedPromise s r = r ≡ borrowed_in s
+
+abbrev pub ParsePromise : List ℕ → KnxnetIpFrame → Type 0
+ParsePromise s r = BorrowedPromise s r.«data».now × Frame.ParsePromise s r.answer
 
 -- where the body stands in the bytes that a record borrows: its header's checks are repeated over them; of a refused one the refusal
 abbrev pub view_of : Result FrameFields Fault → List ℕ → Told
@@ -33,8 +33,11 @@ BodyViewPromise s a r = Parts.told r ≡ view_of a s
 abbrev pub body_of : Result FrameFields Fault → List ℕ → List ℕ
 body_of a s = shown s (view_of a s)
 
+abbrev pub BodyOfPromise : List ℕ → Result FrameFields Fault → List ℕ → Type 0
+BodyOfPromise s a r = r ≡ body_of a s
+
 abbrev pub BodyPromise : KnxnetIpFrame → List ℕ → Type 0
-BodyPromise f r = r ≡ body_of (Ok f.fields) f.«data».now
+BodyPromise f r = BodyOfPromise f.«data».now f.answer r
 
 -- the body of a datagram: from offset 6 to the total length
 abbrev pub BodyInPromise : List ℕ → List ℕ → Type 0

@@ -1,5 +1,5 @@
--- `LDataFrame`: the application data beside the frame's fields, over the definitions that the field record's functions promise, and over how L counts. Assumes nothing.
-use Rattle.std.specs.Prelude.{ℕ, ◌+◌, ◌-◌, ◌≡◌, List, [], length, drop, Result, Ok, Err}
+-- `LDataFrame`: the application data beside what parsing the frame answered, over the definitions that the field record's functions promise, and over how L counts. Assumes nothing.
+use Rattle.std.specs.Prelude.{ℕ, ◌+◌, ◌-◌, ◌≡◌, List, length, drop, Result, Ok, Err}
 use Rattle.wire.specs.Told.{Told, refused, viewed, Check, judged}
 use Rattle.wire.specs.Places.{located}
 use Rattle.wire.specs.Layout.{get}
@@ -51,18 +51,8 @@ data_in s = data_in_count crate_count s
 abbrev pub DataInPromise : List ℕ → List ℕ → Type 0
 DataInPromise s r = r ≡ data_in s
 
--- the fields that stand there, and the data; of a refused frame the refusal, and no byte
-abbrev pub ParsedIn : Count → List ℕ → Result LDataFrame Fault → Type 0
-ParsedIn C s (Ok r) = (r.«data».now ≡ data_in_count C s) × (LData.told (Ok r.fields) ≡ LData.parse_where C s)
-ParsedIn C s (Err e) = LData.told (Err e) ≡ LData.parse_where C s
-
--- what an answer borrows: the data of its record, none where it refuses
-abbrev pub borrowed_of : Result LDataFrame Fault → List ℕ
-borrowed_of (Ok r) = r.«data».now
-borrowed_of (Err e) = []
-
-abbrev pub ParsePromise : List ℕ → Result LDataFrame Fault → Type 0
-ParsePromise s r = ParsedIn crate_count s r
+abbrev pub ParsePromise : List ℕ → LDataFrame → Type 0
+ParsePromise s r = DataInPromise s r.«data».now × LData.ParsePromise s r.answer
 
 abbrev pub view_of : Result LDataFields Fault → List ℕ → Told
 view_of a s = view_in crate_count a s
@@ -73,19 +63,25 @@ DataViewPromise s a r = Parts.told r ≡ view_of a s
 abbrev pub data_of : Result LDataFields Fault → List ℕ → List ℕ
 data_of a s = data_of_in crate_count a s
 
+abbrev pub DataOfPromise : List ℕ → Result LDataFields Fault → List ℕ → Type 0
+DataOfPromise s a r = r ≡ data_of a s
+
 abbrev pub DataPromise : LDataFrame → List ℕ → Type 0
-DataPromise f r = r ≡ data_of (Ok f.fields) f.«data».now
+DataPromise f r = DataOfPromise f.«data».now f.answer r
 
 -- ---- the same in the count that they are given
 
 abbrev pub DataInCountPromise : Counting → List ℕ → List ℕ → Type 0
 DataInCountPromise c s r = r ≡ data_in_count (count_by c) s
 
-abbrev pub ParseInPromise : Counting → List ℕ → Result LDataFrame Fault → Type 0
-ParseInPromise c s r = ParsedIn (count_by c) s r
+abbrev pub ParseInPromise : Counting → List ℕ → LDataFrame → Type 0
+ParseInPromise c s r = DataInCountPromise c s r.«data».now × LData.ParseInPromise c s r.answer
 
 abbrev pub DataViewInPromise : Counting → List ℕ → Result LDataFields Fault → Result View Fault → Type 0
 DataViewInPromise c s a r = Parts.told r ≡ view_in (count_by c) a s
 
+abbrev pub DataOfInPromise : Counting → List ℕ → Result LDataFields Fault → List ℕ → Type 0
+DataOfInPromise c s a r = r ≡ data_of_in (count_by c) a s
+
 abbrev pub FrameDataInPromise : Counting → LDataFrame → List ℕ → Type 0
-FrameDataInPromise c f r = r ≡ data_of_in (count_by c) (Ok f.fields) f.«data».now
+FrameDataInPromise c f r = DataOfInPromise c f.«data».now f.answer r

@@ -1,7 +1,6 @@
 -- The data by the fields that were parsed is the frame's data, and so is that of what `parse_in` borrows. Proved over how L counts. Assumes nothing.
 use Rattle.std.specs.Prelude.{ℕ, ◌+◌, ◌-◌, ◌≤◌, ◌<◌, ◌≡◌, refl, Bool, true, false, List, [], length, get_or, take, drop, Result, Ok, Err}
 use Rattle.std.proofs.Common.{arith, sym, ap, ◌∙◌, length-drop, take_all, length-take-le, lt-ltb, le-ltb}
-use Rattle.wire.specs.Clash.{never}
 use Rattle.wire.specs.Told.{done, refused, viewed, judged}
 use Rattle.wire.specs.ToldLaws.{same, let_pass, let_refuse, was_accepted, was_refused, is_true}
 use Rattle.wire.specs.Places.{standing}
@@ -24,7 +23,7 @@ use Rattle.ldata.specs.LDataLaws as LDataLaws
 use Rattle.ldata.specs.declared.count.Counting.{Counting}
 use Rattle.ldata.specs.declared.ldata.LDataFields.{LDataFields}
 use Rattle.borrowed.specs.Borrowed.{empty_part}
-use Rattle.borrowed.specs.LDataFrame.{data_in_count, DataInCountPromise, ParseInPromise, borrowed_of, borrowed_checks, view_in, DataViewInPromise, data_of_in, FrameDataInPromise}
+use Rattle.borrowed.specs.LDataFrame.{data_in_count, DataInCountPromise, ParseInPromise, borrowed_checks, view_in, DataViewInPromise, data_of_in, FrameDataInPromise}
 use Rattle.borrowed.specs.declared.ldata_frame.LDataFrame.{LDataFrame}
 
 pub fields_data : (c : Counting) (s : List ℕ) (f : LDataFields) → LData.ParseInPromise c s (Ok f) → shown s (LData.data_by01 (count_by c) f s) ≡ data_in_count (count_by c) s
@@ -88,18 +87,20 @@ borrowed_whole c s f p =
     ∙ ap (of d) (ap (λ (vs : List ℕ). get_or vs 4 0) (LDataLaws.read C s f p))
     ∙ whole C d l part starts fits long
 
-pub data_in_lem : (c : Counting) (s : List ℕ) (f : LDataFrame) (r : List ℕ) → ParseInPromise c s (Ok f) → FrameDataInPromise c f r → DataInCountPromise c s r
-data_in_lem c s f r p q = q ∙ ap (data_of_in (count_by c) (Ok f.fields)) p.0 ∙ borrowed_whole c s f.fields p.1
+data_of : (c : Counting) (s : List ℕ) (a : Result LDataFields Fault) (borrowed : List ℕ) → borrowed ≡ data_in_count (count_by c) s → LData.ParseInPromise c s a → data_of_in (count_by c) a borrowed ≡ data_in_count (count_by c) s
+data_of c s (Ok f) borrowed h p = ap (data_of_in (count_by c) (Ok f)) h ∙ borrowed_whole c s f p
+data_of c s (Err e) borrowed h p = empty_part borrowed ∙ sym (refused_data c s e p)
+
+pub data_in_lem : (c : Counting) (s : List ℕ) (f : LDataFrame) (r : List ℕ) → ParseInPromise c s f → FrameDataInPromise c f r → DataInCountPromise c s r
+data_in_lem c s f r p q = q ∙ data_of c s f.answer f.«data».now p.0 p.1
 
 -- ---- refused
 
--- a parse that refuses borrows none
-pub borrows_none : (c : Counting) (s : List ℕ) (r : Result LDataFrame Fault) (e : Fault) → ParseInPromise c s r → r ≡ Err e → borrowed_of r ≡ []
-borrows_none c s r e p q = ap borrowed_of q
+pub borrows_none : (c : Counting) (s : List ℕ) (f : LDataFrame) (e : Fault) → ParseInPromise c s f → f.answer ≡ Err e → f.«data».now ≡ []
+borrows_none c s f e p q = p.0 ∙ refused_data c s e (sym (ap LData.told q) ∙ p.1)
 
--- and of a refused answer no byte is data
-pub refused_answer : (c : Counting) (s : List ℕ) (a : Result LDataFields Fault) (e : Fault) (r : List ℕ) → a ≡ Err e → r ≡ data_of_in (count_by c) a s → r ≡ []
-refused_answer c s a e r q p = p ∙ ap (λ (b : Result LDataFields Fault). data_of_in (count_by c) b s) q ∙ empty_part s
+pub data_none : (c : Counting) (f : LDataFrame) (e : Fault) (r : List ℕ) → f.answer ≡ Err e → FrameDataInPromise c f r → r ≡ []
+data_none c f e r q p = p ∙ ap (λ (a : Result LDataFields Fault). data_of_in (count_by c) a f.«data».now) q ∙ empty_part f.«data».now
 
 -- the view of a refused record tells that refusal
 pub view_none : (c : Counting) (s : List ℕ) (a : Result LDataFields Fault) (e : Fault) (r : Result View Fault) → a ≡ Err e → DataViewInPromise c s a r → Parts.told r ≡ refused 0 e
@@ -111,19 +112,10 @@ view_refusing c s (Ok f) r p = judged-refusing (borrowed_checks (count_by c) f (
 view_refusing c s (Err e) r p = λ _. rw p (refused-zeros 0 e)
 
 -- and the part of such a view is empty
-pub data_refused : (c : Counting) (f : LDataFrame) (e : Fault) (r : List ℕ) → DataViewInPromise c f.«data».now (Ok f.fields) (Err e) → FrameDataInPromise c f r → r ≡ []
-data_refused c f e r p q = q ∙ ap (shown f.«data».now) (sym p) ∙ empty_part f.«data».now
+pub data_refused : (c : Counting) (f : LDataFrame) (v : Result View Fault) (e : Fault) (r : List ℕ) → DataViewInPromise c f.«data».now f.answer v → FrameDataInPromise c f r → v ≡ Err e → r ≡ []
+data_refused c f v e r p q n = q ∙ ap (shown f.«data».now) (sym p) ∙ ap (λ (w : Result View Fault). shown f.«data».now (Parts.told w)) n ∙ empty_part f.«data».now
 
 -- ---- no second answer: a part is settled by its bytes
 
-abbrev pub Alike : Result LDataFrame Fault → Result LDataFrame Fault → Type 0
-Alike (Ok r) (Ok q) = (r.«data».now ≡ q.«data».now) × (r.fields ≡ q.fields)
-Alike (Ok r) (Err e) = ⊥
-Alike (Err e) (Ok q) = ⊥
-Alike (Err e) (Err f) = e ≡ f
-
-pub parse_one : (c : Counting) (s : List ℕ) (r q : Result LDataFrame Fault) → ParseInPromise c s r → ParseInPromise c s q → Alike r q
-parse_one c s (Ok r) (Ok q) a b = (same a.0 b.0, let e = LDataLaws.parse_one c s (Ok r.fields) (Ok q.fields) a.1 b.1 in cc)
-parse_one c s (Ok r) (Err f) a b = let e = LDataLaws.parse_one c s (Ok r.fields) (Err f) a.1 b in never cc
-parse_one c s (Err e) (Ok q) a b = let k = LDataLaws.parse_one c s (Err e) (Ok q.fields) a b.1 in never cc
-parse_one c s (Err e) (Err f) a b = let k = LDataLaws.parse_one c s (Err e) (Err f) a b in cc
+pub parse_one : (c : Counting) (s : List ℕ) (r q : LDataFrame) → ParseInPromise c s r → ParseInPromise c s q → (r.«data».now ≡ q.«data».now) × (r.answer ≡ q.answer)
+parse_one c s r q a b = (same a.0 b.0, LDataLaws.parse_one c s r.answer q.answer a.1 b.1)

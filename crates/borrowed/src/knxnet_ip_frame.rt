@@ -4,26 +4,34 @@ ghost use Rattle.borrowed.specs.KnxnetIpFrame.{ParsePromise, BodyViewPromise, Bo
 use frame::FrameFields;
 use wire::{Fault, View};
 
-// The fields of a frame, and the bytes of its datagram.
+// The bytes of the datagram, none where it is refused, and what parsing it answered.
 #[derive(Clone, Copy)]
 pub struct KnxnetIpFrame<'a> {
-    pub fields: FrameFields,
     pub data: &'a [u8],
+    pub answer: Result<FrameFields, Fault>,
 }
 
 impl<'a> KnxnetIpFrame<'a> {
-    pub fn parse(data: &'a [u8]) -> Result<KnxnetIpFrame<'a>, Fault>
+    pub fn parse(data: &'a [u8]) -> KnxnetIpFrame<'a>
         ensures { ParsePromise «data».now result }
     {
-        let fields = FrameFields::parse(data)?;
-        Ok(KnxnetIpFrame { fields, data })
+        match FrameFields::parse(data) {
+            Ok(fields) => KnxnetIpFrame {
+                data,
+                answer: Ok(fields),
+            },
+            Err(fault) => KnxnetIpFrame {
+                data: wire::part(data, 0, 0),
+                answer: Err(fault),
+            },
+        }
     }
 
-    // Empty for a frame that no parse made and whose body its bytes do not hold.
+    // Empty for a frame that is refused, and for one that no parse made and whose body its bytes do not hold.
     pub fn body(self) -> &'a [u8]
         ensures { BodyPromise self.entry result.now }
     {
-        wire::shown(self.data, self.fields.body(self.data))
+        wire::shown(self.data, body_view(self.data, self.answer))
     }
 }
 
@@ -31,10 +39,7 @@ impl<'a> KnxnetIpFrame<'a> {
 pub fn body_in(datagram: &[u8]) -> &[u8]
     ensures { BodyInPromise datagram.now result.now }
 {
-    match KnxnetIpFrame::parse(datagram) {
-        Ok(frame) => frame.body(),
-        Err(_) => wire::part(datagram, 0, 0),
-    }
+    KnxnetIpFrame::parse(datagram).body()
 }
 
 // Where the body stands in what a frame borrows; a frame that no parse made is checked here.

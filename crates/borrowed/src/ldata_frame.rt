@@ -4,29 +4,34 @@ ghost use Rattle.borrowed.specs.LDataFrame.{ParsePromise, ParseInPromise, DataPr
 use ldata::{Counting, LDataFields};
 use wire::{Fault, Refusal, View};
 
-// The fields of a frame, and its application data.
+// The application data, none where the frame is refused, and what parsing it answered.
 #[derive(Clone, Copy)]
 pub struct LDataFrame<'a> {
-    pub fields: LDataFields,
     pub data: &'a [u8],
+    pub answer: Result<LDataFields, Fault>,
 }
 
 impl<'a> LDataFrame<'a> {
     // In the crate's count, as in the Rust.
-    pub fn parse(data: &'a [u8]) -> Result<LDataFrame<'a>, Fault>
+    pub fn parse(data: &'a [u8]) -> LDataFrame<'a>
         ensures { ParsePromise «data».now result }
     {
         LDataFrame::parse_in(Counting::Crate, data)
     }
 
-    pub fn parse_in(counting: Counting, data: &'a [u8]) -> Result<LDataFrame<'a>, Fault>
+    pub fn parse_in(counting: Counting, data: &'a [u8]) -> LDataFrame<'a>
         ensures { ParseInPromise counting «data».now result }
     {
-        let fields = LDataFields::parse_in(counting, data)?;
-        Ok(LDataFrame {
-            fields,
-            data: fields.data_part_in(counting, data),
-        })
+        match LDataFields::parse_in(counting, data) {
+            Ok(fields) => LDataFrame {
+                data: fields.data_part_in(counting, data),
+                answer: Ok(fields),
+            },
+            Err(fault) => LDataFrame {
+                data: wire::part(data, 0, 0),
+                answer: Err(fault),
+            },
+        }
     }
 
     // In the crate's count.
@@ -36,14 +41,11 @@ impl<'a> LDataFrame<'a> {
         self.data_in(Counting::Crate)
     }
 
-    // Empty for a frame that no parse made and that does not hold its data.
+    // Empty for a frame that is refused, and for one that no parse made and that does not hold its data.
     pub fn data_in(self, counting: Counting) -> &'a [u8]
         ensures { FrameDataInPromise counting self.entry result.now }
     {
-        wire::shown(
-            self.data,
-            data_view_in(counting, self.data, Ok(self.fields)),
-        )
+        wire::shown(self.data, data_view_in(counting, self.data, self.answer))
     }
 }
 
@@ -51,16 +53,13 @@ impl<'a> LDataFrame<'a> {
 pub fn data_in(bytes: &[u8]) -> &[u8]
     ensures { DataInPromise bytes.now result.now }
 {
-    data_in_count(Counting::Crate, bytes)
+    LDataFrame::parse(bytes).data()
 }
 
 pub fn data_in_count(counting: Counting, bytes: &[u8]) -> &[u8]
     ensures { DataInCountPromise counting bytes.now result.now }
 {
-    match LDataFrame::parse_in(counting, bytes) {
-        Ok(frame) => frame.data_in(counting),
-        Err(_) => wire::part(bytes, 0, 0),
-    }
+    LDataFrame::parse_in(counting, bytes).data_in(counting)
 }
 
 // Where the data stands in what a frame borrows; a frame that no parse made is checked here.

@@ -468,21 +468,21 @@ pub table_heard_in : (f : Form) (t : Table) (h : Result Heard Fault) (out : List
     → Zeros (refused 2 e) × (after ≡ out) × ((Table.heard_in_on f h out t.places).1 ≡ t.places)
 table_heard_in = Compiled.heard_in_refusing
 
--- ---- borrowed: what is refused by its parse is no record, so it borrows nothing; a record that the checks refuse, which are repeated, hands out nothing, and its view has the number
+-- ---- borrowed: what is refused by its parse borrows nothing; a record that is refused, by its answer or by the checks that are repeated, hands out nothing, and its view has the number
 
 -- borrowed::KnxnetIpFrame::parse
-pub knxnet_ip_parse : (s : List ℕ) (e : Fault) → KnxnetIpFrame.ParsePromise s (Err e) → Refusing (Frame.told (Err e))
-knxnet_ip_parse s e p = frame_parse s (Err e) p
+pub knxnet_ip_parse : (s : List ℕ) (r : KnxnetIpFrame) → KnxnetIpFrame.ParsePromise s r → Refusing (Frame.told r.answer)
+knxnet_ip_parse s r p = frame_parse s r.answer p.1
 
-pub knxnet_ip_borrows : (s : List ℕ) (r : Result KnxnetIpFrame Fault) (e : Fault) → KnxnetIpFrame.ParsePromise s r → r ≡ Err e → KnxnetIpFrame.borrowed_of r ≡ []
+pub knxnet_ip_borrows : (s : List ℕ) (r : KnxnetIpFrame) (e : Fault) → KnxnetIpFrame.ParsePromise s r → r.answer ≡ Err e → r.«data».now ≡ []
 knxnet_ip_borrows = KnxnetIpFrameLaws.borrows_none
 
 -- borrowed::KnxnetIpFrame::body
-pub knxnet_ip_body_part : (f : KnxnetIpFrame) (e : Fault) (r : List ℕ) → KnxnetIpFrame.BodyViewPromise f.«data».now (Ok f.fields) (Err e) → KnxnetIpFrame.BodyPromise f r → r ≡ []
-knxnet_ip_body_part = KnxnetIpFrameLaws.body_refused
+pub knxnet_ip_body : (f : KnxnetIpFrame) (e : Fault) (r : List ℕ) → f.answer ≡ Err e → KnxnetIpFrame.BodyPromise f r → r ≡ []
+knxnet_ip_body = KnxnetIpFrameLaws.body-none
 
-pub knxnet_ip_body : (s : List ℕ) (a : Result FrameFields Fault) (e : Fault) (r : List ℕ) → a ≡ Err e → r ≡ KnxnetIpFrame.body_of a s → r ≡ []
-knxnet_ip_body = KnxnetIpFrameLaws.refused_body
+pub knxnet_ip_body_part : (f : KnxnetIpFrame) (v : Result View Fault) (e : Fault) (r : List ℕ) → KnxnetIpFrame.BodyViewPromise f.«data».now f.answer v → KnxnetIpFrame.BodyPromise f r → v ≡ Err e → r ≡ []
+knxnet_ip_body_part = KnxnetIpFrameLaws.body_refused
 
 -- borrowed::body_view
 pub knxnet_ip_body_view : (s : List ℕ) (a : Result FrameFields Fault) (r : Result View Fault) → KnxnetIpFrame.BodyViewPromise s a r → Refusing (Parts.told r)
@@ -496,26 +496,26 @@ pub knxnet_ip_body_in : (s r : List ℕ) (e : Refusal) → verdict (Frame.checks
 knxnet_ip_body_in s r e v q = q ∙ shown-refused (Frame.checks (length s) (get Header.fields 0 s)) (viewed 6 (Header.total_in (get Header.fields 0 s))) e s v
 
 -- borrowed::LDataFrame::parse_in
-pub ldata_frame_parse_in : (c : Counting) (s : List ℕ) (e : Fault) → LDataFrame.ParseInPromise c s (Err e) → Refusing (LData.told (Err e))
-ldata_frame_parse_in c s e p = ldata_parse_in c s (Err e) p
+pub ldata_frame_parse_in : (c : Counting) (s : List ℕ) (r : LDataFrame) → LDataFrame.ParseInPromise c s r → Refusing (LData.told r.answer)
+ldata_frame_parse_in c s r p = ldata_parse_in c s r.answer p.1
 
-pub ldata_frame_borrows : (c : Counting) (s : List ℕ) (r : Result LDataFrame Fault) (e : Fault) → LDataFrame.ParseInPromise c s r → r ≡ Err e → LDataFrame.borrowed_of r ≡ []
+pub ldata_frame_borrows : (c : Counting) (s : List ℕ) (r : LDataFrame) (e : Fault) → LDataFrame.ParseInPromise c s r → r.answer ≡ Err e → r.«data».now ≡ []
 ldata_frame_borrows = LDataFrameLaws.borrows_none
 
 -- borrowed::LDataFrame::parse
-pub ldata_frame_parse : (s : List ℕ) (e : Fault) → LDataFrame.ParsePromise s (Err e) → Refusing (LData.told (Err e))
+pub ldata_frame_parse : (s : List ℕ) (r : LDataFrame) → LDataFrame.ParsePromise s r → Refusing (LData.told r.answer)
 ldata_frame_parse = ldata_frame_parse_in Crate
 
 -- borrowed::LDataFrame::data_in
-pub ldata_frame_data_part : (c : Counting) (f : LDataFrame) (e : Fault) (r : List ℕ) → LDataFrame.DataViewInPromise c f.«data».now (Ok f.fields) (Err e) → LDataFrame.FrameDataInPromise c f r → r ≡ []
+pub ldata_frame_data_of : (c : Counting) (f : LDataFrame) (e : Fault) (r : List ℕ) → f.answer ≡ Err e → LDataFrame.FrameDataInPromise c f r → r ≡ []
+ldata_frame_data_of = LDataFrameLaws.data_none
+
+pub ldata_frame_data_part : (c : Counting) (f : LDataFrame) (v : Result View Fault) (e : Fault) (r : List ℕ) → LDataFrame.DataViewInPromise c f.«data».now f.answer v → LDataFrame.FrameDataInPromise c f r → v ≡ Err e → r ≡ []
 ldata_frame_data_part = LDataFrameLaws.data_refused
 
-pub ldata_frame_data_of : (c : Counting) (s : List ℕ) (a : Result LDataFields Fault) (e : Fault) (r : List ℕ) → a ≡ Err e → r ≡ LDataFrame.data_of_in (count_by c) a s → r ≡ []
-ldata_frame_data_of = LDataFrameLaws.refused_answer
-
 -- borrowed::LDataFrame::data
-pub ldata_frame_data : (f : LDataFrame) (e : Fault) (r : List ℕ) → LDataFrame.DataViewPromise f.«data».now (Ok f.fields) (Err e) → LDataFrame.DataPromise f r → r ≡ []
-ldata_frame_data = ldata_frame_data_part Crate
+pub ldata_frame_data : (f : LDataFrame) (e : Fault) (r : List ℕ) → f.answer ≡ Err e → LDataFrame.DataPromise f r → r ≡ []
+ldata_frame_data = ldata_frame_data_of Crate
 
 -- borrowed::data_view_in
 pub ldata_frame_data_view_in : (c : Counting) (s : List ℕ) (a : Result LDataFields Fault) (r : Result View Fault) → LDataFrame.DataViewInPromise c s a r → Refusing (Parts.told r)

@@ -341,13 +341,13 @@ ldata_round_trip b d buf n after f part six q p taken sixth = LDataRoundTrip.rou
 
 -- ---- the records that hold their slice, and the C border, agree with the records below them
 
-pub borrowed_body : (s : List ℕ) (f : KnxnetIpFrame) (r : List ℕ) → KnxnetIpFrame.ParsePromise s (Ok f) → KnxnetIpFrame.BodyPromise f r → KnxnetIpFrame.BodyInPromise s r
+pub borrowed_body : (s : List ℕ) (f : KnxnetIpFrame) (r : List ℕ) → KnxnetIpFrame.ParsePromise s f → KnxnetIpFrame.BodyPromise f r → KnxnetIpFrame.BodyInPromise s r
 borrowed_body = KnxnetIpFrameLaws.body_in
 
 pub borrowed_data : (s : List ℕ) (f : LDataFields) → LData.ParsePromise s (Ok f) → shown s (LData.data_by01 crate_count f s) ≡ LDataFrame.data_in s
 borrowed_data = LDataFrameLaws.fields_data Crate
 
-pub borrowed_record_data : (s : List ℕ) (f : LDataFrame) (r : List ℕ) → LDataFrame.ParsePromise s (Ok f) → LDataFrame.DataPromise f r → LDataFrame.DataInPromise s r
+pub borrowed_record_data : (s : List ℕ) (f : LDataFrame) (r : List ℕ) → LDataFrame.ParsePromise s f → LDataFrame.DataPromise f r → LDataFrame.DataInPromise s r
 borrowed_record_data = LDataFrameLaws.data_in_lem Crate
 
 -- the view of a frame is the one that `FrameFields::body` answers

@@ -77,7 +77,7 @@ taken-control = LDataBuilderLaws.control-accepted
 
 -- ---- in either count: the record that holds its data, and the border
 
-pub borrowed_data : (c : Counting) (s : List ℕ) (f : LDataFrame) (r : List ℕ) → LDataFrame.ParseInPromise c s (Ok f) → LDataFrame.FrameDataInPromise c f r → LDataFrame.DataInCountPromise c s r
+pub borrowed_data : (c : Counting) (s : List ℕ) (f : LDataFrame) (r : List ℕ) → LDataFrame.ParseInPromise c s f → LDataFrame.FrameDataInPromise c f r → LDataFrame.DataInCountPromise c s r
 borrowed_data = LDataFrameLaws.data_in_lem
 
 -- the numbers of `knx_cemi_ldata_standard` are those of the records that `parse`, `as_ldata_in` and `data_in` answer

@@ -897,7 +897,7 @@ inspection_ending = InspectionLinesLaws.ending_one
 -- ---- borrowed: the bytes that a record borrows, and those that it hands out, are settled by its bytes
 
 -- borrowed::KnxnetIpFrame::parse
-pub knxnet_ip_parse : (s : List ℕ) (r q : Result KnxnetIpFrame Fault) → KnxnetIpFrame.ParsePromise s r → KnxnetIpFrame.ParsePromise s q → KnxnetIpFrameLaws.Alike r q
+pub knxnet_ip_parse : (s : List ℕ) (r q : KnxnetIpFrame) → KnxnetIpFrame.ParsePromise s r → KnxnetIpFrame.ParsePromise s q → (r.«data».now ≡ q.«data».now) × (r.answer ≡ q.answer)
 knxnet_ip_parse = KnxnetIpFrameLaws.parse_one
 
 -- borrowed::KnxnetIpFrame::body
@@ -913,11 +913,11 @@ pub knxnet_ip_body_in : One KnxnetIpFrame.BodyInPromise
 knxnet_ip_body_in s r q = same
 
 -- borrowed::LDataFrame::parse_in
-pub ldata_frame_parse_in : (c : Counting) (s : List ℕ) (r q : Result LDataFrame Fault) → LDataFrame.ParseInPromise c s r → LDataFrame.ParseInPromise c s q → LDataFrameLaws.Alike r q
+pub ldata_frame_parse_in : (c : Counting) (s : List ℕ) (r q : LDataFrame) → LDataFrame.ParseInPromise c s r → LDataFrame.ParseInPromise c s q → (r.«data».now ≡ q.«data».now) × (r.answer ≡ q.answer)
 ldata_frame_parse_in = LDataFrameLaws.parse_one
 
 -- borrowed::LDataFrame::parse
-pub ldata_frame_parse : (s : List ℕ) (r q : Result LDataFrame Fault) → LDataFrame.ParsePromise s r → LDataFrame.ParsePromise s q → LDataFrameLaws.Alike r q
+pub ldata_frame_parse : (s : List ℕ) (r q : LDataFrame) → LDataFrame.ParsePromise s r → LDataFrame.ParsePromise s q → (r.«data».now ≡ q.«data».now) × (r.answer ≡ q.answer)
 ldata_frame_parse = LDataFrameLaws.parse_one Crate
 
 -- borrowed::LDataFrame::data_in

@@ -2,5 +2,5 @@
 use Rattle.borrowed.specs.KnxnetIpFrameLaws.{body_in}
 use Rattle.borrowed.proofs.knxnet_ip_frame.body_in.Goals as goal
 
-pub returns-in-Ok : goal.returns-in-Ok
-returns-in-Ok c = body_in c.args.datagram.now c.in-Ok.frame c.body.result.now c.in-Ok.ensures c.body.ensures
+pub returns : goal.returns
+returns c = body_in c.args.datagram.now c.parse.result c.body.result.now c.parse.ensures c.body.ensures
