@@ -35,9 +35,11 @@ body_in s f r p q = q ∙ body_of_lem s f.answer f.«data».now p.0 p.1
 
 -- ---- refused
 
+-- a parse that refuses borrows none
 pub borrows_none : (s : List ℕ) (f : KnxnetIpFrame) (e : Fault) → ParsePromise s f → f.answer ≡ Err e → f.«data».now ≡ []
 borrows_none s f e p q = p.0 ∙ sym (borrowed_none (cs s) (told s) 4 e s refl (sym (ap Frame.told q) ∙ p.1))
 
+-- and of a refused record, whoever made it, no byte is a body
 pub body-none : (f : KnxnetIpFrame) (e : Fault) (r : List ℕ) → f.answer ≡ Err e → BodyPromise f r → r ≡ []
 body-none f e r q p = p ∙ ap (λ (a : Result FrameFields Fault). body_of a f.«data».now) q ∙ empty_part f.«data».now
 

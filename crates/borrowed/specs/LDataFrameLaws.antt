@@ -96,9 +96,11 @@ data_in_lem c s f r p q = q ∙ data_of c s f.answer f.«data».now p.0 p.1
 
 -- ---- refused
 
+-- a parse that refuses borrows none
 pub borrows_none : (c : Counting) (s : List ℕ) (f : LDataFrame) (e : Fault) → ParseInPromise c s f → f.answer ≡ Err e → f.«data».now ≡ []
 borrows_none c s f e p q = p.0 ∙ refused_data c s e (sym (ap LData.told q) ∙ p.1)
 
+-- and of a refused record, whoever made it, no byte is data
 pub data_none : (c : Counting) (f : LDataFrame) (e : Fault) (r : List ℕ) → f.answer ≡ Err e → FrameDataInPromise c f r → r ≡ []
 data_none c f e r q p = p ∙ ap (λ (a : Result LDataFields Fault). data_of_in (count_by c) a f.«data».now) q ∙ empty_part f.«data».now
 
