@@ -2,7 +2,7 @@
 ghost use Rattle.std.specs.Prelude.{◌≤◌, length};
 ghost use Rattle.inspect_io.specs.Reading.{ReadMore, ReadStartPromise};
 
-use crate::captures::Capture;
+use crate::captures::{Buffers, Capture};
 use crate::printing;
 use inspection::Progress;
 use std::io::Read;
@@ -25,12 +25,16 @@ pub(crate) struct Stopped {
 
 impl<F: Read> Capture<'_, F> {
     // Reads until the start is there, or nothing more comes.
-    pub(crate) fn read_start(&mut self, rt: &HostRuntime) -> Result<Progress, Stopped>
-        ensures { ReadStartPromise self.new.input result }
+    pub(crate) fn read_start(
+        &mut self,
+        rt: &HostRuntime,
+        buffers: &mut Buffers,
+    ) -> Result<Progress, Stopped>
+        ensures { ReadStartPromise buffers.new.input result }
     {
         let mut progress = inspection::begin();
         while progress.have < kip::START_SIZE {
-            progress = self.read_more(rt, progress)?;
+            progress = self.read_more(rt, buffers, progress)?;
         }
         Ok(progress)
     }
@@ -40,17 +44,18 @@ impl<F: Read> Capture<'_, F> {
     pub(crate) fn read_more(
         &mut self,
         rt: &HostRuntime,
+        buffers: &mut Buffers,
         progress: Progress,
     ) -> Result<Progress, Stopped>
-        requires { progress.have ≤ length self.old.input }
-        ensures { ReadMore self.old.input self.old.out progress self.new.input self.new.out result }
+        requires { progress.have ≤ length buffers.old.input }
+        ensures { ReadMore buffers.old.input buffers.old.out progress buffers.new.input buffers.new.out result }
     {
-        match self.file.read(&mut self.input[progress.have..]) {
+        match self.file.read(&mut buffers.input[progress.have..]) {
             Ok(0) => Err(Stopped {
                 progress,
                 why: Why::Ended,
             }),
-            Ok(count) => Ok(inspection::read_on(&self.input, progress, count)),
+            Ok(count) => Ok(inspection::read_on(&buffers.input, progress, count)),
             Err(error) => {
                 printing::fail(rt, self.name, error);
                 Err(Stopped {

@@ -3,7 +3,7 @@ ghost use Rattle.std.specs.Prelude.{Err};
 ghost use Rattle.inspection.specs.Reaching.{Reached};
 ghost use Rattle.inspect_io.specs.Turning.{WritePromise, TurnPromise};
 
-use crate::captures::Capture;
+use crate::captures::{Buffers, Capture};
 use crate::printing;
 use crate::printing::Unwritten;
 use crate::reading::{Stopped, Why};
@@ -13,13 +13,18 @@ use std::io::Read;
 impl<F: Read> Capture<'_, F> {
     // Every turn reads or writes a byte at least, so no capture is long enough to meet this count.
     // The premise is the loop's invariant, which a struct would say again.
-    pub(crate) fn turns(&mut self, rt: &HostRuntime, progress: Progress) -> Stopped
-        requires { Reached self.old.input self.old.out progress }
-        ensures { TurnPromise self.new.input self.new.out (Err result) }
+    pub(crate) fn turns(
+        &mut self,
+        rt: &HostRuntime,
+        buffers: &mut Buffers,
+        progress: Progress,
+    ) -> Stopped
+        requires { Reached buffers.old.input buffers.old.out progress }
+        ensures { TurnPromise buffers.new.input buffers.new.out (Err result) }
     {
         let mut progress = progress;
         for _ in 0..u64::MAX {
-            match self.turn(rt, progress) {
+            match self.turn(rt, buffers, progress) {
                 Ok(next) => progress = next,
                 Err(stopped) => return stopped,
             }
@@ -32,25 +37,30 @@ impl<F: Read> Capture<'_, F> {
 
     // Scans, and writes what is gathered where a line has no room; else moves what is left to the front and reads on.
     // Its one caller owes the premise; a struct for that would be longer.
-    fn turn(&mut self, rt: &HostRuntime, progress: Progress) -> Result<Progress, Stopped>
-        requires { Reached self.old.input self.old.out progress }
-        ensures { TurnPromise self.new.input self.new.out result }
+    fn turn(
+        &mut self,
+        rt: &HostRuntime,
+        buffers: &mut Buffers,
+        progress: Progress,
+    ) -> Result<Progress, Stopped>
+        requires { Reached buffers.old.input buffers.old.out progress }
+        ensures { TurnPromise buffers.new.input buffers.new.out result }
     {
-        let read = wire::part(&self.input, 0, progress.have);
-        let scanned = inspection::scan(read, &mut self.out, progress.spot);
+        let read = wire::part(&buffers.input, 0, progress.have);
+        let scanned = inspection::scan(read, &mut buffers.out, progress.spot);
         let handed = Progress {
             spot: scanned.spot,
             ..progress
         };
         match scanned.stop {
-            Stop::Full => write_out(rt, &self.out, handed),
+            Stop::Full => write_out(rt, &buffers.out, handed),
             Stop::Last => Err(Stopped {
                 progress: handed,
                 why: Why::TooLong,
             }),
             Stop::Short => {
-                let front = inspection::to_front(&mut self.input, handed);
-                self.read_more(rt, front)
+                let front = inspection::to_front(&mut buffers.input, handed);
+                self.read_more(rt, buffers, front)
             }
         }
     }

@@ -8,4 +8,4 @@ pub turns-stopped-requires : goal.turns-stopped-requires
 turns-stopped-requires g c =
     let a = c.args in
     let kip = ap starts_by01 (sym c.part.ensures) ∙ sym c.starts-kip.ensures ∙ c.if-not-kip.false in
-    begin_reaches a.self.now.input c.heading.new.out a.progress c.requires.0 c.requires.1 kip
+    begin_reaches a.buffers.now.input c.heading.new.out a.progress c.requires.0 c.requires.1 kip

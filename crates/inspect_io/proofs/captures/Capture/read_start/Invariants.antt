@@ -4,7 +4,7 @@ use Rattle.inspect_io.specs.Reading.{StartPromise}
 use Rattle.inspect_io.proofs.captures.Capture.read_start.Given as goal
 
 abbrev pub invariant-loop-progress : goal.invariant-loop-progress
-invariant-loop-progress g l = StartPromise l.self.input l.progress
+invariant-loop-progress g l = StartPromise l.buffers.input l.progress
 
 abbrev pub decreases-loop-progress : goal.decreases-loop-progress
 decreases-loop-progress g l = 5 - l.progress.have
