@@ -435,7 +435,7 @@ tunnel_acknowledged = RuleLaws.acknowledged_done
 -- ---- kip
 
 -- inspection::line
-pub inspection_line : (n : ℕ) (j : Result Judged Fault) (out : List ℕ) (r : Result ℕ Refusal) (after : List ℕ) → InspectionLines.LinePromise n j out r after → Refusing (Writing.told r) × Leaves (Writing.told r) out after
+pub inspection_line : (n : ℕ) (j : Result Judged ℕ) (out : List ℕ) (r : Result ℕ Refusal) (after : List ℕ) → InspectionLines.LinePromise n j out r after → Refusing (Writing.told r) × Leaves (Writing.told r) out after
 inspection_line n j out = writes_refusing (room (length (InspectionLines.line_of n j)) (length out) ∷ []) (InspectionLines.line_of n j) out
 
 -- inspection::heading

@@ -22,7 +22,6 @@ use Rattle.inspection.specs.declared.scanning.Spot.{Spot}
 use Rattle.inspection.specs.declared.scanning.Scanned.{Scanned}
 use Rattle.inspection.specs.declared.scanning.Stop.TheVariants.{Short}
 use Rattle.inspection.specs.declared.turns.Progress.{Progress}
-use Rattle.wire.specs.declared.refusals.Refusal.TheVariants.{InvalidFrame}
 
 -- whatever moves hand on records and read on: when all is read and no whole record is left, the records of the whole were handed on, in order, and what is left is the unfinished one
 pub hands_on : (s : List ℕ) (ms : List Move) → (ran (begun s) ms).ahead ≡ [] → whole (ran (begun s) ms).unread ≡ false → HandedOn s (ran (begun s) ms)
@@ -159,9 +158,9 @@ turns = to_no_room ++ WriteOut ∷ ScanOn ∷ []
 pub record InTurns : Type 0 where
   pub no_room : unread (inspecting 5 unfinished (replicate 12 0) to_no_room) ≡ 0x00 ∷ 0x06 ∷ second ++ 0x00 ∷ []
   pub first_written : (inspecting 5 unfinished (replicate 12 0) turns).written ≡ heading_of true ++ line_of 1 (Ok (record { service = 0x0421; total = 11 }))
-  pub second-gathered : gathered (inspecting 5 unfinished (replicate 12 0) turns) ≡ line_of 2 (Err (record { why = InvalidFrame; at = 4 }))
+  pub second-gathered : gathered (inspecting 5 unfinished (replicate 12 0) turns) ≡ line_of 2 (Err 2)
   pub all-output : output (inspecting 5 unfinished (replicate 12 0) turns) ≡ printed_by01 unfinished
-  pub all_lines : printed_by01 unfinished ≡ heading_of true ++ line_of 1 (Ok (record { service = 0x0421; total = 11 })) ++ line_of 2 (Err (record { why = InvalidFrame; at = 4 })) ++ ending_of 2 true
+  pub all_lines : printed_by01 unfinished ≡ heading_of true ++ line_of 1 (Ok (record { service = 0x0421; total = 11 })) ++ line_of 2 (Err 2) ++ ending_of 2 true
 
 pub in_turns : InTurns
 unfolding records_of unfinished_of digits_of scan_of

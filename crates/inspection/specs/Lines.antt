@@ -1,12 +1,12 @@
 -- "KIP 1", "1 0421 11", "2 refused 2", "records 2": the lines of an inspection, each with its line feed. Assumes nothing.
-use Rattle.std.specs.Prelude.{ℕ, ◌≡◌, ◌+◌, Bool, cond, List, [], ◌∷◌, ◌++◌, length, get_or, eqb, ltb, Result}
+use Rattle.std.specs.Prelude.{ℕ, ◌≡◌, ◌+◌, Bool, cond, List, [], ◌∷◌, ◌++◌, length, get_or, eqb, ltb, Result, Ok, Err}
 use Rattle.wire.specs.Told.{Told, done, judged, ◌⇒◌}
 use Rattle.wire.specs.Layout.{copied}
 use Rattle.wire.specs.Writing as Writing
 use Rattle.wire.specs.declared.refusals.Refusal.TheVariants.{BufferTooSmall}
 use Rattle.wire.specs.Writing.{WritePromise}
 use Rattle.digits.specs.Digits.{decimal, hex4}
-use Rattle.frame.specs.Judging.{told}
+use Rattle.wire.specs.Refusals.{number_of}
 use Rattle.frame.specs.declared.judging.Judged.{Judged}
 use Rattle.wire.specs.declared.refusals.Refusal.{Refusal}
 use Rattle.wire.specs.declared.refusals.Fault.{Fault}
@@ -45,15 +45,22 @@ service_text code = 32 ∷ hex4 code ++ 32 ∷ []
 abbrev pub refused_text : List ℕ
 refused_text = 32 ∷ 114 ∷ 101 ∷ 102 ∷ 117 ∷ 115 ∷ 101 ∷ 100 ∷ 32 ∷ []
 
--- the line of what is told of a record: service and total length, or the refusal
+-- the line of what is told of a record: service and total length, or the refusal's number
 abbrev pub line_told : ℕ → Told → List ℕ
 line_told n t = cond (eqb t.number 0) (numbered n (service_text (get_or t.values 0 0)) (get_or t.values 1 0)) (numbered n refused_text t.number)
 
-abbrev pub line_of : ℕ → Result Judged Fault → List ℕ
-line_of n j = line_told n (told j)
+-- and of what is judged of it: any number stands for a refusal
+abbrev pub line_of : ℕ → Result Judged ℕ → List ℕ
+line_of n (Ok j) = numbered n (service_text j.service) j.total
+line_of n (Err number) = numbered n refused_text number
+
+-- a refusal by its number
+abbrev pub by_number : Result Judged Fault → Result Judged ℕ
+by_number (Ok j) = Ok j
+by_number (Err e) = Err (number_of e.why)
 
 -- written at the start of the output, or not at all where it does not fit (1)
-abbrev pub LinePromise : ℕ → Result Judged Fault → List ℕ → Result ℕ Refusal → List ℕ → Type 0
+abbrev pub LinePromise : ℕ → Result Judged ℕ → List ℕ → Result ℕ Refusal → List ℕ → Type 0
 LinePromise n j out r after = WritePromise (line_of n j) out r after
 
 -- "an unfinished record prints the line `cut`, then the `records` line with the whole ones counted"

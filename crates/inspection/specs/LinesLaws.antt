@@ -1,10 +1,11 @@
 -- A line is its parts, each copied to its place; no second answer. Assumes nothing.
 use Rattle.std.specs.Prelude.{ℕ, ◌+◌, ◌-◌, ◌<◌, ◌≤◌, ◌≡◌, refl, List, [], ◌∷◌, ◌++◌, length, take, drop, get_or, ltb, Bool, true, false, Result, Ok, Err}
-use Rattle.std.proofs.Common.{arith, sym, ap, ◌∙◌, append_assoc, length-append, length-take-le, drop_at, lt-ltb, le-ltb, ltb-true, ltb-false}
+use Rattle.std.proofs.Common.{arith, sym, ap, ◌∙◌, append_assoc, length-append, length-take-le, drop_at, lt-ltb, le-ltb, ltb-true, ltb-false, ne_eqb}
 use Rattle.std.proofs.lemmas.Bool.{lt-leb}
 use Rattle.wire.specs.Clash.{never}
 use Rattle.wire.specs.Told.{Told, done, nowhere, Check, ◌⇒◌, verdict, judged}
-use Rattle.wire.specs.ToldLaws.{holds, let_through, was_accepted, was_refused}
+use Rattle.wire.specs.Refusals.{number_of}
+use Rattle.wire.specs.ToldLaws.{never_done, holds, let_through, was_accepted, was_refused}
 use Rattle.wire.specs.Writing as Writing
 use Rattle.wire.specs.Writing.{onto, WritePromise}
 use Rattle.wire.specs.WritingLaws.{write_one}
@@ -12,7 +13,8 @@ use Rattle.wire.specs.Layout.{copied}
 use Rattle.wire.specs.LayoutLaws.{copied_is, copied_front, copied_on, length_three}
 use Rattle.wire.specs.declared.refusals.Refusal.TheVariants.{BufferTooSmall}
 use Rattle.digits.specs.Digits.{decimal}
-use Rattle.inspection.specs.Lines.{heading_of, HeadingPromise, PutPromise, closing, line_of, LinePromise, ending_of, EndingPromise}
+use Rattle.inspection.specs.Lines.{heading_of, HeadingPromise, PutPromise, closing, line_told, line_of, by_number, LinePromise, ending_of, EndingPromise}
+use Rattle.frame.specs.Judging.{told}
 use Rattle.frame.specs.declared.judging.Judged.{Judged}
 use Rattle.wire.specs.declared.refusals.Refusal.{Refusal}
 use Rattle.wire.specs.declared.refusals.Fault.{Fault}
@@ -91,6 +93,11 @@ closed_put text out after n at feed b h p =
     let long = closing-length text n in
     (simp (le-ltb (length out) (at + length (closing text n)) (omega (arith, long))) (ap (λ (m : ℕ). done (m ∷ [])) (omega (arith, long))), p)
 
+-- the line of a judgment, a refusal by its number, is that of what it tells
+pub line_says : (n : ℕ) (j : Result Judged Fault) → line_of n (by_number j) ≡ line_told n (told j)
+line_says n (Ok j) = refl
+line_says n (Err e) = sym (simp (ne_eqb (number_of e.why) 0 (never_done e.why)))
+
 pub heading_one : (kip : Bool) (out : List ℕ) (r q : Result ℕ Refusal) (after later : List ℕ) → HeadingPromise kip out r after → HeadingPromise kip out q later → (r ≡ q) × (after ≡ later)
 heading_one kip = write_one (heading_of kip)
 
@@ -98,6 +105,6 @@ pub ending_one : (n : ℕ) (cut : Bool) (out : List ℕ) (r q : Result ℕ Refus
     → EndingPromise n cut out r after → EndingPromise n cut out q later → (r ≡ q) × (after ≡ later)
 ending_one n cut = write_one (ending_of n cut)
 
-pub line_one : (n : ℕ) (j : Result Judged Fault) (out : List ℕ) (r q : Result ℕ Refusal) (after later : List ℕ)
+pub line_one : (n : ℕ) (j : Result Judged ℕ) (out : List ℕ) (r q : Result ℕ Refusal) (after later : List ℕ)
     → LinePromise n j out r after → LinePromise n j out q later → (r ≡ q) × (after ≡ later)
 line_one n j = write_one (line_of n j)

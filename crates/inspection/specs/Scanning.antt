@@ -10,10 +10,9 @@ use Rattle.inspection.specs.declared.scanning.Scanned.{Scanned}
 use Rattle.inspection.specs.declared.scanning.Stop.{Stop}
 use Rattle.inspection.specs.declared.scanning.Stop.TheVariants.{Short, Full, Last}
 use Rattle.wire.specs.declared.refusals.Refusal.{Refusal}
-use Rattle.wire.specs.declared.refusals.Fault.{Fault}
 
 -- a record's line, from a place on
-abbrev pub PutLinePromise : ℕ → Result Judged Fault → ℕ → List ℕ → Result ℕ Refusal → List ℕ → Type 0
+abbrev pub PutLinePromise : ℕ → Result Judged ℕ → ℕ → List ℕ → Result ℕ Refusal → List ℕ → Type 0
 PutLinePromise n j at out r after = PutPromise (line_of n j) at out r after
 
 -- where a scan is: how far it handed on, how much of the output is used, how many records there were, the output, and why it stopped

@@ -12,8 +12,8 @@ use Rattle.wire.specs.Writing as Writing
 use Rattle.wire.specs.declared.refusals.Refusal.{Refusal}
 use Rattle.kip.specs.Capture.{whole, NextPromise}
 use Rattle.frame.specs.Judging.{judge_where, JudgePromise}
-use Rattle.inspection.specs.Lines.{line_told, line_of}
-use Rattle.inspection.specs.LinesLaws.{Put, was_put, was_full}
+use Rattle.inspection.specs.Lines.{line_told, line_of, by_number}
+use Rattle.inspection.specs.LinesLaws.{Put, was_put, was_full, line_says}
 use Rattle.kip.specs.Stepping.{Named, names}
 use Rattle.inspection.specs.Scanning.{Scan, most, line_at, stopped, scan_of, HandOnPromise, PutLinePromise, ScanPromise}
 use Rattle.wire.specs.declared.parts.View.{View}
@@ -74,7 +74,7 @@ pub record Turn : Type 0 where
   pub counts : spot.n < most
   pub named : NextPromise input spot.at (Some view)
   pub told_so : JudgePromise (part_of input view.start view.end) told_of
-  pub put : PutLinePromise (spot.n + 1) told_of spot.used out answer after
+  pub put : PutLinePromise (spot.n + 1) (by_number told_of) spot.used out answer after
 
 module _ (t : Turn) where
   there : Named t.input t.spot.at t.view.start t.view.end
@@ -92,10 +92,10 @@ module _ (t : Turn) where
 
   -- the line that is put is the record's, in which no offset is told
   abbrev line : List ℕ
-  line = line_of (t.spot.n + 1) t.told_of
+  line = line_of (t.spot.n + 1) (by_number t.told_of)
 
   the_line : line ≡ line_at t.input t.spot.at t.spot.n
-  the_line = ap (line_told (t.spot.n + 1)) (t.told_so ∙ ap judge_where there.datagram)
+  the_line = line_says (t.spot.n + 1) t.told_of ∙ ap (line_told (t.spot.n + 1)) (t.told_so ∙ ap judge_where there.datagram)
 
   pub turn_full : (e : Refusal) → t.answer ≡ Err e → HandOnPromise t.input t.out t.spot (Err Full) t.after
   turn_full e refused k =

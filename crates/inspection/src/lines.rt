@@ -3,7 +3,7 @@ ghost use Rattle.std.specs.Prelude.{◌≡◌, ◌≤◌};
 ghost use Rattle.inspection.specs.Lines.{HeadingPromise, closing, LinePromise, EndingPromise, NumberedPromise, PutPromise, cut_front};
 
 use frame::Judged;
-use wire::{Fault, Refusal};
+use wire::Refusal;
 
 // The first line: whether the bytes start as a capture does.
 pub fn heading(kip: bool, out: &mut [u8]) -> Result<usize, Refusal>
@@ -16,8 +16,8 @@ pub fn heading(kip: bool, out: &mut [u8]) -> Result<usize, Refusal>
     }
 }
 
-// The record's number in the capture, then service and total length, or the refusal.
-pub fn line(n: u64, judged: Result<Judged, Fault>, out: &mut [u8]) -> Result<usize, Refusal>
+// The record's number in the capture, then service and total length, or the number of a refusal, whichever it is.
+pub fn line(n: u64, judged: Result<Judged, u8>, out: &mut [u8]) -> Result<usize, Refusal>
     ensures { LinePromise n judged out.old result out.new }
 {
     match judged {
@@ -25,7 +25,7 @@ pub fn line(n: u64, judged: Result<Judged, Fault>, out: &mut [u8]) -> Result<usi
             let [a, b, c, d] = digits::hex4(judged.service);
             numbered(n, &[b' ', a, b, c, d, b' '], judged.total as u64, out)
         }
-        Err(fault) => numbered(n, b" refused ", fault.why.number() as u64, out),
+        Err(number) => numbered(n, b" refused ", number as u64, out),
     }
 }
 

@@ -3,7 +3,7 @@ ghost use Rattle.inspection.specs.Scanning.{HandOnPromise, PutLinePromise, ScanP
 
 use crate::lines;
 use frame::Judged;
-use wire::{Fault, Refusal};
+use wire::Refusal;
 
 // How far a buffer's records are handed on, how much of the output is used, since memory is fixed, and how many records there were.
 #[derive(Clone, Copy)]
@@ -50,7 +50,8 @@ fn hand_on(input: &[u8], out: &mut [u8], spot: Spot) -> Result<Spot, Stop>
 {
     let record = kip::next_record(input, spot.at).ok_or(Stop::Short)?;
     let n = spot.n.checked_add(1).ok_or(Stop::Last)?;
-    let judged = frame::judge(wire::part(input, record.start, record.end));
+    let datagram = wire::part(input, record.start, record.end);
+    let judged = frame::judge(datagram).map_err(|fault| fault.why.number());
     let size = put_line(n, judged, out, spot.used).or(Err(Stop::Full))?;
     Ok(Spot {
         at: record.end,
@@ -60,12 +61,7 @@ fn hand_on(input: &[u8], out: &mut [u8], spot: Spot) -> Result<Spot, Stop>
 }
 
 // A record's line from a place of the output on, or none of it.
-fn put_line(
-    n: u64,
-    judged: Result<Judged, Fault>,
-    out: &mut [u8],
-    at: usize,
-) -> Result<usize, Refusal>
+fn put_line(n: u64, judged: Result<Judged, u8>, out: &mut [u8], at: usize) -> Result<usize, Refusal>
     ensures { PutLinePromise n judged at out.old result out.new }
 {
     if out.len() < at {

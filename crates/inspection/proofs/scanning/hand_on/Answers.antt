@@ -1,12 +1,17 @@
 -- `hand_on`: each way out is a turn of a scan. Assumes nothing.
-use Rattle.std.proofs.Common.{ℕ, ◌+◌, ◌≡◌, refl, arith, subst, List, Result, Ok, Err}
+use Rattle.std.specs.Prelude.{IsErrAnd, MatchResult}
+use Rattle.std.proofs.Common.{ℕ, ◌+◌, ◌≡◌, refl, arith, ap, subst, List, Result, Ok, Err}
 use Rattle.std.specs.Result.{result_or}
 use Rattle.std.proofs.lemmas.Result.{err_from_is_err_and}
 use Rattle.wire.specs.Clash.{never}
 use Rattle.frame.specs.Judging.{JudgePromise}
+use Rattle.wire.specs.Refusals.{number_of}
 use Rattle.wire.specs.declared.refusals.Refusal.{Refusal}
+use Rattle.wire.specs.declared.refusals.Fault.{Fault}
+use Rattle.frame.specs.declared.judging.Judged.{Judged}
 use Rattle.inspection.specs.declared.scanning.Stop.{Stop}
 use Rattle.inspection.specs.declared.scanning.Stop.TheVariants.{Short, Full, Last}
+use Rattle.inspection.specs.Lines.{by_number}
 use Rattle.inspection.specs.Scanning.{HandOnPromise}
 use Rattle.inspection.specs.ScanningLaws.{Turn, hand_short, hand_last, turn_full, turn_fits, turn_hands}
 use Rattle.inspection.proofs.scanning.hand_on.Goals as goal
@@ -29,10 +34,19 @@ returns-in_err-n c =
     let most = rw i.ok_part at c.checked_add.ensures in
     rw (p.1, p.2, last) (hand_last c.args.input.now c.args.out.now c.args.spot c.in_ok-record.record (rw c.in_ok-record.ensures.ok_part at c.next_record.ensures) (omega arith))
 
+-- a refusal is handed on by its number
+its_number : (r : Result Judged Fault) (q : Result Judged ℕ) → MatchResult r (λ x. q ≡ Ok x) (λ e. IsErrAnd q (λ n. n ≡ number_of e.why)) → q ≡ by_number r
+its_number (Ok j) q e = e
+its_number (Err e) (Ok j) x = absurd x
+its_number (Err e) (Err n) x = ap Err x
+
 -- what a turn knows once its line was put
 module _ (c : After-put_line) where
   number : c.in_ok-n.n ≡ c.args.spot.n + 1
   number = let n = rw c.in_ok-n.ensures.ok_part at c.checked_add.ensures in n.1
+
+  judged_so : c.map_err-judged.result ≡ by_number c.judge.result
+  judged_so = its_number c.judge.result c.map_err-judged.result c.map_err-judged.ensures.cases
 
   abbrev turn : Turn
   turn = record {
@@ -40,13 +54,13 @@ module _ (c : After-put_line) where
     spot = c.args.spot;
     out = c.args.out.now;
     view = c.in_ok-record.record;
-    told_of = c.judge-judged.result;
+    told_of = c.judge.result;
     answer = c.put_line.result;
     after = c.put_line.new.out;
     counts = let n = rw c.in_ok-n.ensures.ok_part at c.checked_add.ensures in omega arith;
     named = rw c.in_ok-record.ensures.ok_part at c.next_record.ensures;
-    told_so = subst (λ (d : List ℕ). JudgePromise d c.judge-judged.result) c.part.ensures c.judge-judged.ensures;
-    put = rw number at c.put_line.ensures;
+    told_so = subst (λ (d : List ℕ). JudgePromise d c.judge.result) c.part-datagram.ensures c.judge.ensures;
+    put = rw (number, judged_so) at c.put_line.ensures;
   }
 
 -- the line was put, or its refusal is told as `Full`
