@@ -829,6 +829,7 @@ knx_table_datagram_standard bytes before image = knx_table_calls image (Datagram
 -- replay::telegram
 -- replay::asks
 -- replay::replay
+-- replay::Calls::run
 -- variants::service
 -- variants::service_of
 -- variants::message_code

@@ -1,5 +1,5 @@
 -- "What a contract has to settle": no second answer. One theorem for each public function, under its name, over the promise that its `ensures` cites: two answers, or two answers with their lent slices, that meet the promise on the same inputs are equal. A part that is handed out is settled by its bytes.
-use Rattle.std.specs.Prelude.{ℕ, ◌≡◌, List, ◌++◌, [], Bool, Option, None, Some, Result}
+use Rattle.std.specs.Prelude.{ℕ, ◌≡◌, List, ◌++◌, [], Bool, Option, None, Some, Result, Ok, Err}
 use Rattle.wire.specs.Refusals.{NumberPromise}
 use Rattle.wire.specs.Layout.{WordPromise, HighPromise, LowPromise, ByteAtPromise, WordAtPromise, CopyPromise}
 use Rattle.wire.specs.Writing.{WritePromise, Write3Promise}
@@ -97,8 +97,10 @@ use Rattle.replay.specs.Laws as ReplayLaws
 use Rattle.replay.specs.Records as Records
 use Rattle.replay.specs.Telegrams as Telegrams
 use Rattle.replay.specs.Running as Replaying
+use Rattle.replay.specs.RunningLaws as ReplayingLaws
 use Rattle.replay.specs.declared.records.Record.{Record}
 use Rattle.replay.specs.declared.telling.Told.{Told}
+use Rattle.replay.specs.declared.running.Stopped.{Stopped}
 use Rattle.tunnel_datagram.specs.declared.hearing.Heard.{Heard}
 use Rattle.tunnel_table.specs.Table.{EmptyPromise, CallPromise, heard_on, HeardPromise, heard_in_on, HeardInPromise}
 use Rattle.tunnel_table.specs.Compiled as Compiled
@@ -1089,7 +1091,7 @@ knx_table_datagram bytes out image = CalledLaws.call_one image (Datagram bytes o
 pub knx_table_datagram_standard : (bytes out : List ℕ) → OneImage (λ image. Called.DatagramStandardPromise image bytes out)
 knx_table_datagram_standard bytes out image = CalledLaws.call_one image (DatagramIn Form.Standard bytes out)
 
--- ---- replay: what the programs that replay recorded calls share; of a record that was read the buffer that is lent to its call, of a run over an input of no record all
+-- ---- replay: what the programs that replay recorded calls share; of a record that was read the buffer that is lent to its call and, where the reader's bytes are known, which it was; of a run over known bytes, to where no record is left, what is written and carried
 
 -- replay::refused
 pub replay_refused : One₂ Telling.RefusedPromise
@@ -1097,7 +1099,7 @@ replay_refused why count r q = same
 
 -- replay::located
 pub replay_located : One₂ Telling.LocatedPromise
-replay_located t refusal r q = same
+replay_located t at r q = same
 
 -- replay::few
 pub replay_few : One₂ Telling.FewPromise
@@ -1128,14 +1130,31 @@ pub replay_number24 : One Records.Number24Promise
 replay_number24 s r q = same
 
 -- replay::next
-pub replay_next : (before left : Option (List ℕ)) (r : Option Record) (args buf after later : List ℕ) → Records.NextPromise before left r args buf after → Records.NextPromise before left r args buf later → after ≡ later
-replay_next before left None args buf after later p q = same p q
-replay_next before left (Some r) args buf after later p q = same p.filled q.filled
+pub replay_next : {E : Type 0} (before left : Option (List ℕ)) (r : Result (Option Record) E) (args buf after later : List ℕ) → Records.NextPromise before left r args buf after → Records.NextPromise before left r args buf later → after ≡ later
+replay_next before left (Ok None) args buf after later p q = same p.1 q.1
+replay_next before left (Ok (Some r)) args buf after later p q = same p.filled q.filled
+replay_next before left (Err e) args buf after later p q = same p q
+
+-- which record, and what is left behind it
+pub replay_next_record : (s : List ℕ) (left rest : Option (List ℕ)) (r q : Record) (args buf after more later : List ℕ) → Records.RecordPromise (Some s) left r args buf after → Records.RecordPromise (Some s) rest q more buf later → r ≡ q
+replay_next_record s left rest r q args buf after more later a b = same a.read.0 b.read.0
 
 -- replay::replay
-pub replay_replay : {W C : Type 0} (input : Option (List ℕ)) (out after later : W) (calls left last : C) → Replaying.NoRecord input
-    → Replaying.ReplayPromise input out after calls left → Replaying.ReplayPromise input out later calls last → (after ≡ later) × (left ≡ last)
-replay_replay input out after later calls left last none p q = (same (p none).0 (q none).0, same (p none).1 (q none).1)
+pub replay_replay : {W C : Type 0} (answers : Replaying.Answering C) → ReplayingLaws.OneWay answers → (s h : List ℕ) (holds holding : Option (List ℕ)) (output written later : W) (calls next last : C)
+    → Replaying.ReplayPromise answers (Some s) (Some h) holds output written calls next (Ok tt) → Replaying.ReplayPromise answers (Some s) (Some h) holding output later calls last (Ok tt) → (holds ≡ holding) × (next ≡ last)
+replay_replay answers one s h holds holding output written later calls next last = ReplayingLaws.replay_one answers one s h holds holding output written later calls next last
+
+-- of an input that holds no record, however it ends, the writer and what is carried stay
+pub replay_nothing : {W C : Type 0} (answers : Replaying.Answering C) (input held holds holding : Option (List ℕ)) (out after later : W) (calls left last : C) (r q : Result (Unit {0}) Stopped) → Replaying.NoRecord input
+    → Replaying.ReplayPromise answers input held holds out after calls left r → Replaying.ReplayPromise answers input held holding out later calls last q → (after ≡ later) × (left ≡ last)
+replay_nothing answers input held holds holding out after later calls left last r q none a b =
+    let x = ReplayingLaws.no_turn none a.turns in
+    let y = ReplayingLaws.no_turn none b.turns in
+    (same (a.untouched x.0) (b.untouched y.0), same x.1 y.1)
+
+-- replay::Calls::run
+pub replay_run : {C : Type 0} (answers : Replaying.Answering C) (calls next last : C) (r q : Unit {0}) → Replaying.RunPromise answers calls next r → Replaying.RunPromise answers calls last q → r ≡ q
+replay_run answers calls next last r q a b = same a.nothing b.nothing
 
 -- replay::telegram
 pub replay_telegram : One₃ Telegrams.TelegramPromise

@@ -5,3 +5,4 @@ pub mod Records
 pub mod Telegrams
 pub mod Running
 pub mod Laws
+pub mod RunningLaws

@@ -84,3 +84,13 @@ line_of t s = decimal t.number ∷ values t ++ cond t.lends (buffer s) [] ++ end
 
 abbrev pub LinePromise : Told → List ℕ → List ℕ → ℕ → List ℕ → Type 0
 LinePromise t s out r after = PiecesPromise (line_of t s) out 0 r after
+
+-- ---- the same as a text, with no sheet
+
+-- a piece behind a text, unless it has no room
+abbrev pub behind : ℕ → List ℕ → List ℕ → List ℕ
+behind room text w = cond (leb (length text + length w) room) (text ++ w) text
+
+-- the pieces one behind the other
+abbrev pub text_of : ℕ → List (List ℕ) → List ℕ
+text_of room = fold (behind room) []

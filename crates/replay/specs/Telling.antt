@@ -29,13 +29,13 @@ fallen t at = cond (ltb t.refusals 4)
     (record { number = t.number; count = t.count; values = t.values; lends = t.lends; refusals = t.refusals + 1; offsets = set t.offsets t.refusals at })
     t
 
--- a refusal brings one more, at its offset
-abbrev pub located_at : Told → Option Fault → Told
+-- the offset of a refusal brings one more
+abbrev pub located_at : Told → Option ℕ → Told
 located_at t None = t
-located_at t (Some fault) = fallen t fault.at
+located_at t (Some at) = fallen t at
 
-abbrev pub LocatedPromise : Told → Option Fault → Told → Type 0
-LocatedPromise t refusal r = r ≡ located_at t refusal
+abbrev pub LocatedPromise : Told → Option ℕ → Told → Type 0
+LocatedPromise t at r = r ≡ located_at t at
 
 abbrev pub FlagPromise : Bool → ℕ → Type 0
 FlagPromise b r = r ≡ cond b 1 0

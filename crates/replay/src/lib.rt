@@ -9,6 +9,6 @@ mod telling;
 
 pub use lines::line;
 pub use records::{Record, next, number24};
-pub use running::{Calls, replay};
+pub use running::{Calls, Stopped, replay};
 pub use telegrams::{asks, telegram};
 pub use telling::{Told, few, flag, located, moved, refused, remainder, written};

@@ -1,7 +1,8 @@
 // The records of calls, from a reader that is lent: standard input in the programs that replay.
-ghost use Rattle.replay.specs.Records.{Number24Promise, FillPromise, NextPromise};
+ghost use Rattle.replay.specs.Records.{Number24Promise, FillPromise, FilledPromise, NextPromise};
 
 use crate::lines;
+use std::io;
 use std::io::Read;
 
 // A call, how many argument bytes it has and how many it lends: counts, since slices of both buffers would have to be lent with it.
@@ -12,25 +13,51 @@ pub struct Record {
     pub m: usize,
 }
 
-// Reads the next record's arguments, and prepares the buffer that is lent. A record that asks for more than there is ends the run, and lines are missing; so does a read that fails.
+// Reads the next record's arguments, and prepares the buffer that is lent. A record that asks for more than there is is none, so that it ends the run, and lines are missing.
 #[tactic(auto, using(crate::specs::Laws::read_from))]
-pub fn next<R: Read>(input: &mut R, args: &mut [u8], buf: &mut [u8]) -> Option<Record>
+pub fn next<R: Read>(input: &mut R, args: &mut [u8], buf: &mut [u8]) -> io::Result<Option<Record>>
     ensures { NextPromise (R.remaining input.old) (R.remaining input.new) result args.new buf.old buf.new }
 {
     let mut head = [0u8; 7];
-    input.read_exact(&mut head).ok()?;
+    if !filled(input, &mut head)? {
+        return Ok(None);
+    }
     let n = number24(&head[1..4]);
     let m = number24(&head[4..7]);
     if args.len() < n || buf.len() < m {
-        return None;
+        return Ok(None);
     }
-    input.read_exact(&mut args[..n]).ok()?;
+    if !filled(input, &mut args[..n])? {
+        return Ok(None);
+    }
     fill(&mut buf[..m]);
-    Some(Record {
+    Ok(Some(Record {
         call: head[0],
         n,
         m,
-    })
+    }))
+}
+
+// Reads until the buffer is full, or false where the input ends before. As std's read_exact, whose promise does not tell an input that ends from a read that fails.
+fn filled<R: Read>(input: &mut R, buf: &mut [u8]) -> io::Result<bool>
+    ensures { FilledPromise (R.remaining input.old) (R.remaining input.new) buf.new result }
+{
+    let mut at = 0;
+    for _ in 0..u64::MAX {
+        if at >= buf.len() {
+            return Ok(true);
+        }
+        match input.read(&mut buf[at..]) {
+            Ok(0) => return Ok(false),
+            Ok(n) => at += n,
+            Err(error) => {
+                if error.kind() != io::ErrorKind::Interrupted {
+                    return Err(error);
+                }
+            }
+        }
+    }
+    Err(io::Error::from(io::ErrorKind::Interrupted))
 }
 
 // Three bytes; those that are missing count as 0.

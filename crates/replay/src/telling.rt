@@ -44,14 +44,14 @@ pub fn few(count: usize, four: [usize; 4]) -> Told
     }
 }
 
-// A refusal is told with its offset, behind those that the line tells already. No call has more than four.
-pub fn located(t: Told, refusal: Option<Fault>) -> Told
-    ensures { LocatedPromise t refusal result }
+// The offset of a refusal, none where nothing was refused, behind those that the line tells already. No call has more than four.
+pub fn located(t: Told, at: Option<usize>) -> Told
+    ensures { LocatedPromise t at result }
 {
     let mut told = t;
-    if let Some(fault) = refusal {
+    if let Some(at) = at {
         if told.refusals < 4 {
-            told.offsets[told.refusals] = fault.at;
+            told.offsets[told.refusals] = at;
             told.refusals += 1;
         }
     }

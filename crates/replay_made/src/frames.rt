@@ -29,7 +29,8 @@ pub(crate) fn accessors(args: &[u8]) -> Told {
     t.values[10] = replay::remainder(f.body_part(slice));
     t.values[11..14].copy_from_slice(&views::numbered(data));
     t.values[14] = replay::remainder(f.data_part(slice));
-    replay::located(replay::located(t, body.err()), data.err())
+    let t = replay::located(t, body.err().map(|fault| fault.at));
+    replay::located(t, data.err().map(|fault| fault.at))
 }
 
 fn header(answer: Result<KnxnetIpHeader, Fault>) -> Told {
@@ -49,7 +50,7 @@ fn header(answer: Result<KnxnetIpHeader, Fault>) -> Told {
         }
         Err(fault) => {
             let t = replay::few(15, [usize::from(fault.why.number()), 0, 0, 0]);
-            replay::located(t, Some(fault))
+            replay::located(t, Some(fault.at))
         }
     }
 }
@@ -64,7 +65,7 @@ fn service(headed: Told, answer: Result<ServiceType, Fault>) -> Told {
         }
         Err(fault) => {
             t.values[5] = usize::from(fault.why.number());
-            replay::located(t, Some(fault))
+            replay::located(t, Some(fault.at))
         }
     }
 }

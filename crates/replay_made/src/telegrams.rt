@@ -23,7 +23,7 @@ pub(crate) fn cemi(args: &[u8]) -> Told {
     t.values[1] = replay::flag(f.is_ldata());
     t.values[4..7].copy_from_slice(&views::numbered(info));
     t.values[7] = replay::remainder(f.service_info_part(slice));
-    replay::located(t, info.err())
+    replay::located(t, info.err().map(|fault| fault.at))
 }
 
 fn info_length(answer: Result<u8, Fault>) -> Told {
@@ -31,7 +31,7 @@ fn info_length(answer: Result<u8, Fault>) -> Told {
         Ok(n) => replay::few(8, [0, 0, 0, usize::from(n)]),
         Err(fault) => {
             let t = replay::few(8, [0, 0, usize::from(fault.why.number()), 0]);
-            replay::located(t, Some(fault))
+            replay::located(t, Some(fault.at))
         }
     }
 }
@@ -89,5 +89,5 @@ fn asked(f: LDataFields, view: Result<View, Fault>, part: &[u8]) -> Told {
     t.values[..3].copy_from_slice(&views::numbered(view));
     t.values[3] = replay::remainder(part);
     t.values[4..7].copy_from_slice(&replay::asks(f));
-    replay::located(t, view.err())
+    replay::located(t, view.err().map(|fault| fault.at))
 }
