@@ -13,7 +13,7 @@ pub struct Record {
     pub m: usize,
 }
 
-// Reads the next record's arguments, and prepares the buffer that is lent. A record that asks for more than there is is none, so that it ends the run, and lines are missing.
+// Reads the next record's arguments, and prepares the buffer that is lent. A record that asks for more than there is counts as none: it ends the run, and lines are missing.
 #[tactic(auto, using(crate::specs::Laws::read_from))]
 pub fn next<R: Read>(input: &mut R, args: &mut [u8], buf: &mut [u8]) -> io::Result<Option<Record>>
     ensures { NextPromise (R.remaining input.old) (R.remaining input.new) result args.new buf.old buf.new }
@@ -38,7 +38,8 @@ pub fn next<R: Read>(input: &mut R, args: &mut [u8], buf: &mut [u8]) -> io::Resu
     }))
 }
 
-// Reads until the buffer is full, or false where the input ends before. As std's read_exact, whose promise does not tell an input that ends from a read that fails.
+// Reads until the buffer is full; false where the input ends before. std's read_exact does the same, but its promise does not tell an input that ends from a read that fails.
+// Only an interruption brings a turn that reads nothing, and as many in a row do not occur.
 fn filled<R: Read>(input: &mut R, buf: &mut [u8]) -> io::Result<bool>
     ensures { FilledPromise (R.remaining input.old) (R.remaining input.new) buf.new result }
 {

@@ -18,13 +18,13 @@ pub enum Stopped {
 
 // The calls that a program answers, with what it carries from one to the next.
 pub trait Calls {
-    // What is carried, a call, its arguments and what it is lent; what it told, what it left there, and what is carried on. A program that says no more here answers as it likes.
+    // How a call is answered: from what is carried, the call, its arguments and what it is lent, to what it told, what it left there, and what is carried on. A program that gives no relation may answer anything.
     ghost answers: { Self → ℕ → List ℕ → List ℕ → Told → List ℕ → Self → Type 0 } = { λ _ _ _ _ _ _ _. Unit {0} };
 
     fn answer(&mut self, call: u8, args: &[u8], buf: &mut [u8]) -> Told
         ensures { answers self.old call args.now buf.old result buf.new self.new };
 
-    // Replays standard input, of which nothing is known beforehand; why it ended is told to nobody, since lines are missing then. Where there are arguments behind the program's name its usage is told; they are not read, so no room is lent for them.
+    // Replays standard input, of which nothing is known beforehand. Why it ended is told to nobody: lines are missing then. Where there are arguments behind the program's name its usage is told; they are not read, so no room is lent for them.
     final fn run(&mut self, rt: &HostRuntime, usage: &str)
     where
         Self: Sized,
