@@ -14,8 +14,10 @@ pub struct Held {
 }
 
 // The first place with this id, none for a free place: an id that stands twice means its first place. 01 names the form: a loop that yields the place by break.
-pub(crate) fn find(places: [Option<Held>; 8], id: Option<u8>) -> Option<Spot>
-    ensures { FindPromise places id result }
+// Lent and out of line: drawn in eight times, it takes the table apart into bytes, and what is copied next waits for them.
+#[inline(never)]
+pub(crate) fn find(places: &[Option<Held>; 8], id: Option<u8>) -> Option<Spot>
+    ensures { FindPromise places.now id result }
 {
     let mut i: usize = 0;
     let found = loop {

@@ -49,9 +49,9 @@ impl Table {
     pub fn open(self, id: u8) -> Result<Called, Fault>
         ensures { CallPromise self (Open id) result [] }
     {
-        match places::find(self.places, Some(id)) {
+        match places::find(&self.places, Some(id)) {
             Some(_) => Err(Fault::from(Refusal::AlreadyOpen)),
-            None => match places::find(self.places, None) {
+            None => match places::find(&self.places, None) {
                 Some(spot) => {
                     let tunnel = Tunnel::fresh();
                     Ok(self.put(spot, Some(Held { id, tunnel })).say(Said::Nothing))
@@ -228,7 +228,7 @@ impl Table {
     fn spot(self, id: u8, at: usize) -> Result<Spot, Fault>
         ensures { SpotPromise self id at result }
     {
-        match places::find(self.places, Some(id)) {
+        match places::find(&self.places, Some(id)) {
             Some(spot) => Ok(spot),
             None => Err(Fault {
                 why: Refusal::NotOpen,
