@@ -1,7 +1,7 @@
 -- "A connect response body needs 14 bytes (1) whatever its status, then the `Hpai` checks." Assumes nothing.
 use Rattle.std.specs.Prelude.{ℕ, ◌≡◌, refl, Bool, cond, List, [], ◌∷◌, ◌++◌, length, get_or, drop, replicate, eqb, ltb, Result, Ok, Err, IfOk}
 use Rattle.wire.specs.Told.{Told, done, refused, Check, ◌⇒◌, judged}
-use Rattle.wire.specs.Places.{located, moved}
+use Rattle.wire.specs.Places.{Standing, located, standing, moved}
 use Rattle.wire.specs.Layout.{Field, byte, run, word_at, size, put, get}
 use Rattle.wire.specs.Format.{Format, checks_of, offsets_of, found_in, read_by01}
 use Rattle.wire.specs.declared.refusals.Refusal.TheVariants.{BufferTooSmall}
@@ -53,6 +53,14 @@ parse_where s = found_in format s (parse_by01 s)
 pub record Arrays (c : ConnectResponse) : Type 0 where
   pub address_4 : length c.data_endpoint.ip_address ≡ 4
   pub crd_4 : length c.crd ≡ 4
+
+-- what the checks say, at their offsets
+abbrev pub StandsPromise : List ℕ → Standing → Type 0
+StandsPromise s r = r ≡ standing (checks (length s) (get fields 0 s)) (offsets (length s))
+
+-- the fields are the body's values
+abbrev pub ReadPromise : List ℕ → ConnectResponse → Type 0
+ReadPromise s c = (values c ≡ get fields 0 s) × Arrays c
 
 abbrev pub ParsePromise : List ℕ → Result ConnectResponse Fault → Type 0
 ParsePromise s r = (told r ≡ parse_where s) × IfOk r Arrays

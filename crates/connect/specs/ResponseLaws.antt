@@ -5,31 +5,37 @@ use Rattle.std.proofs.lemmas.List.{get_or_at}
 use Rattle.std.proofs.lemmas.Bool.{eqb-false}
 use Rattle.wire.specs.Told.{Told, done, refused, verdict, answer}
 use Rattle.wire.specs.ToldLaws.{answer_of, back_refused, same}
-use Rattle.wire.specs.Layout.{byte, run_at, put, get}
+use Rattle.wire.specs.Layout.{byte, put, get}
 use Rattle.wire.specs.FormatLaws as FormatLaws
 use Rattle.wire.specs.LayoutLaws.{Bytes}
 use Rattle.wire.specs.declared.refusals.Fault.{Fault}
 use Rattle.wire.specs.declared.refusals.Refusal.TheVariants.{BufferTooSmall}
 use Rattle.wire.specs.Told.{Verdict}
-use Rattle.hpai.specs.Hpai as Hpai
-use Rattle.hpai.specs.declared.Hpai.{Hpai}
-use Rattle.connect.specs.Endpoint.{StandsPromise, ReadPromise}
-use Rattle.connect.specs.EndpointLaws as EndpointLaws
-use Rattle.connect.specs.Response.{fields, format, values, layout, checks, told, parse_where, Arrays, ParsePromise, bare, parse_standard_where, ParseStandardPromise}
+use Rattle.wire.specs.Places.{Standing}
+use Rattle.wire.specs.PlaceLaws.{located_pass, located_fall, stands-accepted}
+use Rattle.connect.specs.Endpoint as Endpoint
+use Rattle.connect.specs.Response.{fields, format, values, layout, checks, offsets, told, parse_where, Arrays, StandsPromise, ReadPromise, ParsePromise, bare, parse_standard_where, ParseStandardPromise}
 use Rattle.connect.specs.declared.response.ConnectResponse.{ConnectResponse}
 
--- ---- on from the endpoint, which stands from 2 to 10
+-- ---- the checks, the endpoint's behind the length, decide
 
-module _ (s : List ℕ) (enough : 14 ≤ length s) where
-  -- the endpoint's refusal is the response's
-  pub fell : (e : Fault) → StandsPromise s (Err e) → refused 13 e ≡ parse_where s
-  fell e q = simp (le-ltb (length s) 14 enough) (EndpointLaws.fell s (done (get fields 0 s)) e q)
+abbrev too_few : List ℕ → Fault
+too_few s = record { why = BufferTooSmall; at = length s }
 
-  -- and where it is accepted, the response is
-  pub stood : (c : Hpai) → StandsPromise s (Ok tt) → ReadPromise s c → done (get_or s 0 0 ∷ get_or s 1 0 ∷ (Hpai.values c ++ run_at 4 s 10)) ≡ parse_where s
-  stood c q p =
-      ap (λ (us : List ℕ). done (get_or s 0 0 ∷ get_or s 1 0 ∷ (us ++ run_at 4 s 10))) (EndpointLaws.held s c p)
-      ∙ simp (le-ltb (length s) 14 enough) (EndpointLaws.stood s (done (get fields 0 s)) refl q)
+pub too_few_falls : (s : List ℕ) → length s < 14 → StandsPromise s (Err (too_few s))
+too_few_falls s short = sym (simp (lt-ltb (length s) 14 short) refl)
+
+pub endpoint_decides : (s : List ℕ) (r : Standing) → 14 ≤ length s → Endpoint.StandsPromise s r → StandsPromise s r
+endpoint_decides s r enough q = q ∙ sym (simp (le-ltb (length s) 14 enough) refl)
+
+pub fell : (s : List ℕ) (e : Fault) → StandsPromise s (Err e) → refused 13 e ≡ parse_where s
+fell s e q = sym (located_fall (checks (length s) (get fields 0 s)) (offsets (length s)) (done (get fields 0 s)) e (sym q))
+
+pub stood : (s : List ℕ) (c : ConnectResponse) → StandsPromise s (Ok tt) → ReadPromise s c → done (values c) ≡ parse_where s
+stood s c q p =
+    let cs = checks (length s) (get fields 0 s) in
+    let os = offsets (length s) in
+    ap done p.0 ∙ sym (located_pass cs os (done (get fields 0 s)) refl refl (stands-accepted cs os (sym q)))
 
 -- ---- no second answer
 

@@ -1,5 +1,6 @@
 // The answer to a connect request.
-ghost use Rattle.connect.specs.Response.{ParsePromise, ParseStandardPromise, IsOkPromise, IndividualAddressPromise, BarePromise};
+ghost use Rattle.std.specs.Prelude.{◌≤◌, length};
+ghost use Rattle.connect.specs.Response.{ParsePromise, ParseStandardPromise, StandsPromise, ReadPromise, IsOkPromise, IndividualAddressPromise, BarePromise};
 
 use crate::endpoint;
 use address::IndividualAddress;
@@ -10,8 +11,8 @@ use wire::{Fault, Refusal};
 pub struct ConnectResponse {
     pub channel_id: u8,
     pub status: u8,
-    pub crd: [u8; 4],
     pub data_endpoint: Hpai,
+    pub crd: [u8; 4],
 }
 
 impl ConnectResponse {
@@ -19,24 +20,11 @@ impl ConnectResponse {
     pub fn parse(data: &[u8]) -> Result<ConnectResponse, Fault>
         ensures { ParsePromise «data».now result }
     {
-        if data.len() < 14 {
-            return Err(Fault {
-                why: Refusal::BufferTooSmall,
-                at: data.len(),
-            });
-        }
-        endpoint::stands(data)?;
-        let data_endpoint = endpoint::read(data);
-        let crd = [data[10], data[11], data[12], data[13]];
-        Ok(ConnectResponse {
-            channel_id: data[0],
-            status: data[1],
-            data_endpoint,
-            crd,
-        })
+        stands(data)?;
+        Ok(read(data))
     }
 
-    // In KNX's own form a response that refuses ends behind its status.
+    // In KNX's own form a response that refuses ends behind its status. It goes by the parts of parse and not by parse, whose Result would go through memory once more.
     pub fn parse_standard(data: &[u8]) -> Result<ConnectResponse, Fault>
         ensures { ParseStandardPromise «data».now result }
     {
@@ -46,10 +34,11 @@ impl ConnectResponse {
                 at: data.len(),
             });
         }
-        if data[1] == 0 {
-            return ConnectResponse::parse(data);
+        if data[1] != 0 {
+            return Ok(bare(data[0], data[1]));
         }
-        Ok(bare(data[0], data[1]))
+        stands(data)?;
+        Ok(read(data))
     }
 
     pub fn is_ok(self) -> bool
@@ -64,6 +53,34 @@ impl ConnectResponse {
     {
         let crd = self.crd;
         IndividualAddress::from_u16(wire::word_at(&crd, 2))
+    }
+}
+
+// The checks of a response that is fourteen bytes long whatever its status.
+fn stands(data: &[u8]) -> Result<(), Fault>
+    ensures { StandsPromise «data».now result }
+{
+    if data.len() < 14 {
+        return Err(Fault {
+            why: Refusal::BufferTooSmall,
+            at: data.len(),
+        });
+    }
+    endpoint::stands(data)
+}
+
+// Its fields, which the checks let pass. Its two callers owe the length.
+fn read(data: &[u8]) -> ConnectResponse
+    requires { 14 ≤ length «data».now }
+    ensures { ReadPromise «data».now result }
+{
+    let data_endpoint = endpoint::read(data);
+    let crd = [data[10], data[11], data[12], data[13]];
+    ConnectResponse {
+        channel_id: data[0],
+        status: data[1],
+        data_endpoint,
+        crd,
     }
 }
 
