@@ -5,7 +5,7 @@ use Rattle.std.proofs.lemmas.List.{get_or_at}
 use Rattle.std.proofs.lemmas.Bool.{eqb-false}
 use Rattle.wire.specs.Told.{Told, done, refused, verdict, answer}
 use Rattle.wire.specs.ToldLaws.{answer_of, back_refused, same}
-use Rattle.wire.specs.Layout.{byte, put, get}
+use Rattle.wire.specs.Layout.{byte, run_at, put, get}
 use Rattle.wire.specs.FormatLaws as FormatLaws
 use Rattle.wire.specs.LayoutLaws.{Bytes}
 use Rattle.wire.specs.declared.refusals.Fault.{Fault}
@@ -13,7 +13,10 @@ use Rattle.wire.specs.declared.refusals.Refusal.TheVariants.{BufferTooSmall}
 use Rattle.wire.specs.Told.{Verdict}
 use Rattle.wire.specs.Places.{Standing}
 use Rattle.wire.specs.PlaceLaws.{located_pass, located_fall, stands-accepted}
+use Rattle.hpai.specs.Hpai as Hpai
+use Rattle.hpai.specs.declared.Hpai.{Hpai}
 use Rattle.connect.specs.Endpoint as Endpoint
+use Rattle.connect.specs.EndpointLaws as EndpointLaws
 use Rattle.connect.specs.Response.{fields, format, values, layout, checks, offsets, told, parse_where, Arrays, StandsPromise, ReadPromise, ParsePromise, bare, parse_standard_where, ParseStandardPromise}
 use Rattle.connect.specs.declared.response.ConnectResponse.{ConnectResponse}
 
@@ -36,6 +39,12 @@ stood s c q p =
     let cs = checks (length s) (get fields 0 s) in
     let os = offsets (length s) in
     ap done p.0 ∙ sym (located_pass cs os (done (get fields 0 s)) refl refl (stands-accepted cs os (sym q)))
+
+-- on from an endpoint that stands, which has the bytes from 2 to 10
+pub endpoint_stood : (s : List ℕ) (c : Hpai) → 14 ≤ length s → Endpoint.StandsPromise s (Ok tt) → Endpoint.ReadPromise s c → done (get_or s 0 0 ∷ get_or s 1 0 ∷ (Hpai.values c ++ run_at 4 s 10)) ≡ parse_where s
+endpoint_stood s c enough q p =
+    ap (λ (us : List ℕ). done (get_or s 0 0 ∷ get_or s 1 0 ∷ (us ++ run_at 4 s 10))) (EndpointLaws.held s c p)
+    ∙ simp (le-ltb (length s) 14 enough) (EndpointLaws.stood s (done (get fields 0 s)) refl q)
 
 -- ---- no second answer
 
