@@ -826,9 +826,11 @@ knx_table_datagram_standard bytes before image = knx_table_calls image (Datagram
 -- replay::line
 -- replay::number24
 -- replay::next
+-- replay::try_next
 -- replay::telegram
 -- replay::asks
 -- replay::replay
+-- replay::try_replay
 -- replay::Calls::run
 -- variants::service
 -- variants::service_of

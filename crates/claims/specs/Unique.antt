@@ -1091,7 +1091,7 @@ knx_table_datagram bytes out image = CalledLaws.call_one image (Datagram bytes o
 pub knx_table_datagram_standard : (bytes out : List ℕ) → OneImage (λ image. Called.DatagramStandardPromise image bytes out)
 knx_table_datagram_standard bytes out image = CalledLaws.call_one image (DatagramIn Form.Standard bytes out)
 
--- ---- replay: what the programs that replay recorded calls share; of a record that was read the buffer that is lent to its call and, where the reader's bytes are known, which it was; of a run over known bytes, to where no record is left, what is written and carried
+-- ---- replay: what the programs that replay recorded calls share; of a record that was read the buffer that is lent to its call and, where the reader's bytes are known, which it was; of a run over known bytes, to where no record is left, what is written and carried; of one that tells nobody why it ended, over an input of no record, all
 
 -- replay::refused
 pub replay_refused : One₂ Telling.RefusedPromise
@@ -1130,23 +1130,33 @@ pub replay_number24 : One Records.Number24Promise
 replay_number24 s r q = same
 
 -- replay::next
-pub replay_next : {E : Type 0} (before left : Option (List ℕ)) (r : Result (Option Record) E) (args buf after later : List ℕ) → Records.NextPromise before left r args buf after → Records.NextPromise before left r args buf later → after ≡ later
-replay_next before left (Ok None) args buf after later p q = same p.1 q.1
-replay_next before left (Ok (Some r)) args buf after later p q = same p.filled q.filled
-replay_next before left (Err e) args buf after later p q = same p q
+pub replay_next : (before left : Option (List ℕ)) (r : Option Record) (args buf after later : List ℕ) → Records.NextPromise before left r args buf after → Records.NextPromise before left r args buf later → after ≡ later
+replay_next before left None args buf after later p q = same p q
+replay_next before left (Some r) args buf after later p q = same p.filled q.filled
+
+-- replay::try_next
+pub replay_try_next : {E : Type 0} (before left : Option (List ℕ)) (r : Result (Option Record) E) (args buf after later : List ℕ) → Records.TryNextPromise before left r args buf after → Records.TryNextPromise before left r args buf later → after ≡ later
+replay_try_next before left (Ok None) args buf after later p q = same p.1 q.1
+replay_try_next before left (Ok (Some r)) args buf after later p q = same p.filled q.filled
+replay_try_next before left (Err e) args buf after later p q = same p q
 
 -- which record, and what is left behind it
 pub replay_next_record : (s : List ℕ) (left rest : Option (List ℕ)) (r q : Record) (args buf after more later : List ℕ) → Records.RecordPromise (Some s) left r args buf after → Records.RecordPromise (Some s) rest q more buf later → r ≡ q
 replay_next_record s left rest r q args buf after more later a b = same a.read.0 b.read.0
 
 -- replay::replay
-pub replay_replay : {W C : Type 0} (answers : Replaying.Answering C) → ReplayingLaws.OneWay answers → (s h : List ℕ) (holds holding : Option (List ℕ)) (output written later : W) (calls next last : C)
-    → Replaying.ReplayPromise answers (Some s) (Some h) holds output written calls next (Ok tt) → Replaying.ReplayPromise answers (Some s) (Some h) holding output later calls last (Ok tt) → (holds ≡ holding) × (next ≡ last)
-replay_replay answers one s h holds holding output written later calls next last = ReplayingLaws.replay_one answers one s h holds holding output written later calls next last
+pub replay_replay : {W C : Type 0} (input : Option (List ℕ)) (out after later : W) (calls left last : C) → Replaying.NoRecord input
+    → Replaying.ReplayPromise input out after calls left → Replaying.ReplayPromise input out later calls last → (after ≡ later) × (left ≡ last)
+replay_replay input out after later calls left last none p q = (same (p none).0 (q none).0, same (p none).1 (q none).1)
+
+-- replay::try_replay
+pub replay_try_replay : {W C : Type 0} (answers : Replaying.Answering C) → ReplayingLaws.OneWay answers → (s h : List ℕ) (holds holding : Option (List ℕ)) (output written later : W) (calls next last : C)
+    → Replaying.TryReplayPromise answers (Some s) (Some h) holds output written calls next (Ok tt) → Replaying.TryReplayPromise answers (Some s) (Some h) holding output later calls last (Ok tt) → (holds ≡ holding) × (next ≡ last)
+replay_try_replay answers one s h holds holding output written later calls next last = ReplayingLaws.replay_one answers one s h holds holding output written later calls next last
 
 -- of an input that holds no record, however it ends, the writer and what is carried stay
 pub replay_nothing : {W C : Type 0} (answers : Replaying.Answering C) (input held holds holding : Option (List ℕ)) (out after later : W) (calls left last : C) (r q : Result (Unit {0}) Stopped) → Replaying.NoRecord input
-    → Replaying.ReplayPromise answers input held holds out after calls left r → Replaying.ReplayPromise answers input held holding out later calls last q → (after ≡ later) × (left ≡ last)
+    → Replaying.TryReplayPromise answers input held holds out after calls left r → Replaying.TryReplayPromise answers input held holding out later calls last q → (after ≡ later) × (left ≡ last)
 replay_nothing answers input held holds holding out after later calls left last r q none a b =
     let x = ReplayingLaws.no_turn none a.turns in
     let y = ReplayingLaws.no_turn none b.turns in

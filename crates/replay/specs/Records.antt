@@ -62,6 +62,11 @@ Gave before left None args buf after = NoneLeft (length args) (length buf) befor
 Gave before left (Some r) args buf after = RecordPromise before left r args buf after
 
 -- where a read fails, the lent buffer is as it was too
-abbrev pub NextPromise : {E : Type 0} → Option (List ℕ) → Option (List ℕ) → Result (Option Record) E → List ℕ → List ℕ → List ℕ → Type 0
-NextPromise before left (Ok o) args buf after = Gave before left o args buf after
-NextPromise before left (Err e) args buf after = after ≡ buf
+abbrev pub TryNextPromise : {E : Type 0} → Option (List ℕ) → Option (List ℕ) → Result (Option Record) E → List ℕ → List ℕ → List ℕ → Type 0
+TryNextPromise before left (Ok o) args buf after = Gave before left o args buf after
+TryNextPromise before left (Err e) args buf after = after ≡ buf
+
+-- where no record comes, and none says why, the lent buffer is as it was
+abbrev pub NextPromise : Option (List ℕ) → Option (List ℕ) → Option Record → List ℕ → List ℕ → List ℕ → Type 0
+NextPromise before left None args buf after = after ≡ buf
+NextPromise before left (Some r) args buf after = RecordPromise before left r args buf after

@@ -51,7 +51,7 @@ Ended (Err Unwritten) n left held holds text = 1 ≤ n
 Ended (Err TooLong) n left held holds text = (n ≡ 2 ^ 64 - 1) × Appends held holds text
 
 -- what a reader has left, what a writer holds before and after, the writer, and what is carried
-pub record ReplayPromise {W C : Type 0} (answers : Answering C) (input held holds : Option (List ℕ)) (output written : W) (calls last : C) (r : Result (Unit {0}) Stopped) : Type 0 where
+pub record TryReplayPromise {W C : Type 0} (answers : Answering C) (input held holds : Option (List ℕ)) (output written : W) (calls last : C) (r : Result (Unit {0}) Stopped) : Type 0 where
   pub count : ℕ
   pub left : Option (List ℕ)
   pub text : List ℕ
@@ -65,6 +65,16 @@ pub record ReplayPromise {W C : Type 0} (answers : Answering C) (input held hold
 abbrev pub NoRecord : Option (List ℕ) → Type 0
 NoRecord None = ⊥
 NoRecord (Some s) = length s < 7
+
+-- no call is made then, and nothing is written
+abbrev pub ReplayPromise : {W C : Type 0} → Option (List ℕ) → W → W → C → C → Type 0
+ReplayPromise input output written calls left = NoRecord input → (written ≡ output) × (left ≡ calls)
+
+-- ---- a run that tells nobody why it ended
+
+pub record RunsPromise {W C : Type 0} (answers : Answering C) (input held holds : Option (List ℕ)) (output written : W) (calls last : C) : Type 0 where
+  pub why : Result (Unit {0}) Stopped
+  pub run : TryReplayPromise answers input held holds output written calls last why
 
 -- ---- the run of a process
 

@@ -12,7 +12,7 @@ use Rattle.wire.specs.PartLaws.{part_is}
 use Rattle.replay.specs.Lines.{Sheet, sheet, laid, all, pattern, line_of, LinePromise, behind, text_of}
 use Rattle.replay.specs.Laws.{arguments_alone, read_is}
 use Rattle.replay.specs.Records.{pattern_from, record_of, RecordPromise, Begins, NoneLeft, Gave}
-use Rattle.replay.specs.Running.{Answering, room, line_room, Turn, Turns, none, turn, NoRecord, ReplayPromise}
+use Rattle.replay.specs.Running.{Answering, room, line_room, Turn, Turns, none, turn, NoRecord, TryReplayPromise}
 use Rattle.replay.specs.declared.records.Record.{Record}
 use Rattle.replay.specs.declared.telling.Told.{Told}
 
@@ -185,8 +185,8 @@ module _ {C : Type 0} (answers : Answering C) (one : OneWay answers) where
   holds_is h (Some t) text p = ap Some p
 
   -- known bytes, of which no record is left, and a writer whose bytes are known
-  pub replay_one : {W : Type 0} (s h : List ℕ) (holds holding : Option (List ℕ)) (output written later : W) (calls next last : C) → ReplayPromise answers (Some s) (Some h) holds output written calls next (Ok tt)
-      → ReplayPromise answers (Some s) (Some h) holding output later calls last (Ok tt) → (holds ≡ holding) × (next ≡ last)
+  pub replay_one : {W : Type 0} (s h : List ℕ) (holds holding : Option (List ℕ)) (output written later : W) (calls next last : C) → TryReplayPromise answers (Some s) (Some h) holds output written calls next (Ok tt)
+      → TryReplayPromise answers (Some s) (Some h) holding output later calls last (Ok tt) → (holds ≡ holding) × (next ≡ last)
   replay_one s h holds holding output written later calls next last p q =
       let w = turns_one s refl p.turns p.ended.0 q.turns q.ended.0 in
       (holds_is h holds p.text p.ended.1 ∙ ap (λ (l : List ℕ). Some (h ++ l)) w.1 ∙ sym (holds_is h holding q.text q.ended.1), w.0)

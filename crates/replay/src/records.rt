@@ -1,6 +1,7 @@
 // The records of calls, from a reader that is lent: standard input in the programs that replay.
-ghost use Rattle.replay.specs.Records.{Number24Promise, FillPromise, FilledPromise, NextPromise};
+ghost use Rattle.replay.specs.Records.{Number24Promise, FillPromise, FilledPromise, NextPromise, TryNextPromise};
 
+use crate::filling::{ByReads, Exactly, Filling};
 use crate::lines;
 use std::io;
 use std::io::Read;
@@ -13,13 +14,35 @@ pub struct Record {
     pub m: usize,
 }
 
-// Reads the next record's arguments, and prepares the buffer that is lent. A record that asks for more than there is counts as none: it ends the run, and lines are missing.
-#[tactic(auto, using(crate::specs::Laws::read_from))]
-pub fn next<R: Read>(input: &mut R, args: &mut [u8], buf: &mut [u8]) -> io::Result<Option<Record>>
+// Reads the next record's arguments by the reader's own read_exact, and prepares the buffer that is lent. Why no record came is not told: one that asks for more than there is ends the run, and so does a read that fails.
+pub fn next<R: Read>(input: &mut R, args: &mut [u8], buf: &mut [u8]) -> Option<Record>
     ensures { NextPromise (R.remaining input.old) (R.remaining input.new) result args.new buf.old buf.new }
 {
+    next_by::<Exactly, R>(input, args, buf).unwrap_or(None)
+}
+
+// The same by reads, and why no record came: no whole one was left, or a read failed.
+pub fn try_next<R: Read>(
+    input: &mut R,
+    args: &mut [u8],
+    buf: &mut [u8],
+) -> io::Result<Option<Record>>
+    ensures { TryNextPromise (R.remaining input.old) (R.remaining input.new) result args.new buf.old buf.new }
+{
+    next_by::<ByReads, R>(input, args, buf)
+}
+
+// Reads the next record's arguments, and prepares the buffer that is lent. A record that asks for more than there is counts as none: it ends the run, and lines are missing.
+#[tactic(auto, using(crate::specs::Laws::read_from))]
+pub(crate) fn next_by<F: Filling, R: Read>(
+    input: &mut R,
+    args: &mut [u8],
+    buf: &mut [u8],
+) -> io::Result<Option<Record>>
+    ensures { TryNextPromise (R.remaining input.old) (R.remaining input.new) result args.new buf.old buf.new }
+{
     let mut head = [0u8; 7];
-    if !filled(input, &mut head)? {
+    if !F::filled(input, &mut head)? {
         return Ok(None);
     }
     let n = number24(&head[1..4]);
@@ -27,7 +50,7 @@ pub fn next<R: Read>(input: &mut R, args: &mut [u8], buf: &mut [u8]) -> io::Resu
     if args.len() < n || buf.len() < m {
         return Ok(None);
     }
-    if !filled(input, &mut args[..n])? {
+    if !F::filled(input, &mut args[..n])? {
         return Ok(None);
     }
     fill(&mut buf[..m]);
@@ -40,7 +63,7 @@ pub fn next<R: Read>(input: &mut R, args: &mut [u8], buf: &mut [u8]) -> io::Resu
 
 // Reads until the buffer is full; false where the input ends before. std's read_exact does the same, but its promise does not tell an input that ends from a read that fails.
 // Only an interruption brings a turn that reads nothing, and as many in a row do not occur.
-fn filled<R: Read>(input: &mut R, buf: &mut [u8]) -> io::Result<bool>
+pub(crate) fn filled<R: Read>(input: &mut R, buf: &mut [u8]) -> io::Result<bool>
     ensures { FilledPromise (R.remaining input.old) (R.remaining input.new) buf.new result }
 {
     let mut at = 0;

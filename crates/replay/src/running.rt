@@ -1,8 +1,9 @@
 // The run of a program that replays: each record's call is answered, and its line written.
 ghost use Rattle.std.specs.Prelude.{ℕ, List};
-ghost use Rattle.replay.specs.Running.{ReplayPromise, RunPromise};
+ghost use Rattle.replay.specs.Running.{ReplayPromise, RunsPromise, TryReplayPromise, RunPromise};
 ghost use Rattle.replay.specs.declared.telling.Told.{Told};
 
+use crate::filling::{ByReads, Exactly, Filling};
 use crate::telling::Told;
 use crate::{lines, records};
 use std::env::{Env, FillError};
@@ -31,26 +32,44 @@ pub trait Calls {
         ensures { RunPromise answers self.old self.new result }
     {
         if matches!(rt.arg(1, &mut []), Err(FillError::NotPresent)) {
-            let _ = replay(&mut rt.stdin(), &mut rt.stdout(), self);
+            let _ = try_replay(&mut rt.stdin(), &mut rt.stdout(), self);
         } else {
             let _ = eprintln!(rt; "usage: {usage}");
         }
     }
 }
 
-// Every turn reads seven bytes, so no input is long enough for all turns.
-pub fn replay<R: Read, W: Write, C: Calls>(
+// Replays a reader that fills each buffer by its own read_exact. Why the run ended is not told.
+pub fn replay<R: Read, W: Write, C: Calls>(input: &mut R, output: &mut W, calls: &mut C)
+    ensures { ReplayPromise (R.remaining input.old) output.old output.new calls.old calls.new × RunsPromise C.answers (R.remaining input.old) (W.contents output.old) (W.contents output.new) output.old output.new calls.old calls.new }
+{
+    let _ = replay_by::<Exactly, R, W, C>(input, output, calls);
+}
+
+// Replays a reader, and answers why the run ended before its input.
+pub fn try_replay<R: Read, W: Write, C: Calls>(
     input: &mut R,
     output: &mut W,
     calls: &mut C,
 ) -> Result<(), Stopped>
-    ensures { ReplayPromise C.answers (R.remaining input.old) (W.contents output.old) (W.contents output.new) output.old output.new calls.old calls.new result }
+    ensures { TryReplayPromise C.answers (R.remaining input.old) (W.contents output.old) (W.contents output.new) output.old output.new calls.old calls.new result }
+{
+    replay_by::<ByReads, R, W, C>(input, output, calls)
+}
+
+// Every turn reads seven bytes, so no input is long enough for all turns.
+fn replay_by<F: Filling, R: Read, W: Write, C: Calls>(
+    input: &mut R,
+    output: &mut W,
+    calls: &mut C,
+) -> Result<(), Stopped>
+    ensures { TryReplayPromise C.answers (R.remaining input.old) (W.contents output.old) (W.contents output.new) output.old output.new calls.old calls.new result }
 {
     let mut args = [0u8; 66000];
     let mut buf = [0u8; 66000];
     let mut out = [0u8; 133000];
     for _ in 0..u64::MAX {
-        let record = match records::next(input, &mut args, &mut buf) {
+        let record = match records::next_by::<F, R>(input, &mut args, &mut buf) {
             Ok(Some(record)) => record,
             Ok(None) => return Ok(()),
             Err(_) => return Err(Stopped::Unread),

@@ -2,7 +2,7 @@
 use Rattle.std.proofs.Common.{◌≡◌, List, ℕ, length}
 use Rattle.std.specs.Io.KnownBytes.{Appends}
 use Rattle.replay.specs.Running.{room, line_room, Turns}
-use Rattle.replay.proofs.running.replay.Given as goal
+use Rattle.replay.proofs.running.replay_by.Given as goal
 
 abbrev pub invariant-loop : goal.invariant-loop
 invariant-loop g l =
