@@ -1162,6 +1162,11 @@ replay_nothing answers input held holds holding out after later calls left last 
     let y = ReplayingLaws.no_turn none b.turns in
     (same (a.untouched x.0) (b.untouched y.0), same x.1 y.1)
 
+-- so it is with the turns that `replay::replay` promises beside
+pub replay_runs : {W C : Type 0} (answers : Replaying.Answering C) (input held holds holding : Option (List ℕ)) (out after later : W) (calls left last : C) → Replaying.NoRecord input
+    → Replaying.RunsPromise answers input held holds out after calls left → Replaying.RunsPromise answers input held holding out later calls last → (after ≡ later) × (left ≡ last)
+replay_runs answers input held holds holding out after later calls left last none a b = replay_nothing answers input held holds holding out after later calls left last a.why b.why none a.run b.run
+
 -- replay::Calls::run
 pub replay_run : {C : Type 0} (answers : Replaying.Answering C) (calls next last : C) (r q : Unit {0}) → Replaying.RunPromise answers calls next r → Replaying.RunPromise answers calls last q → r ≡ q
 replay_run answers calls next last r q a b = same a.nothing b.nothing
